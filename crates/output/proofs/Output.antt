@@ -1,0 +1,55 @@
+-- Laws of writes. Assumes nothing.
+use mathlib.Core.Path.{_≡_, refl, sym, ap, _∙_}
+use mathlib.Core.List.{List, [], _∷_, _++_, append-assoc}
+use Prim.Native.Nat.{ℕ, suc, _+_, _-_, _≤_, _<_}
+use native.Mathlib.Nat.{add-assoc, add-zero, zero-add}
+use native.Mathlib.Omega.{arith}
+use native.Mathlib.Numerals.{add-one}
+use lib.ListN.{length, take, drop, set, length-append, length-take, length-drop}
+use lib.Seq.{take-at, drop-at, drop-drop, length-take-le, set-split, append-snoc, paste-zero}
+use Rattle.output.specs.Output.{overlay, Wrote}
+
+-- one text after another
+overlay-then : (d : List ℕ) (at : ℕ) (s t : List ℕ) → at ≤ length d → overlay (overlay d at s) (at + length s) t ≡ overlay d at (s ++ t)
+unfolding overlay
+overlay-then d at s t h =
+    let n : length (take at d ++ s) ≡ at + length s = simp length-append (rw length-take-le refl) in
+    rw (take-at (take at d ++ s) (drop (at + length s) d) (at + length s) n, ← drop-drop (length t) (at + length s), drop-at (take at d ++ s) (drop (at + length s) d) (at + length s) n, drop-drop)
+    (simp (length-append, append-assoc, add-assoc))
+
+-- writes chain: the second starts where the first ended
+pub then : {d : List ℕ} {at : ℕ} {s t d₁ d₂ : List ℕ} {e₁ e₂ : ℕ} → at ≤ length d → Wrote d at s d₁ e₁ → Wrote d₁ e₁ t d₂ e₂ → Wrote d at (s ++ t) d₂ e₂
+then {d} {at} {s} {t} h v w = record { bytes = rw (w .bytes, v .bytes, v .past) (overlay-then d at s t h); past = simp length-append (omega arith) }
+
+-- the same write, its text said otherwise
+pub said : {d : List ℕ} {at : ℕ} {s t d₁ : List ℕ} {e : ℕ} → s ≡ t → Wrote d at s d₁ e → Wrote d at t d₁ e
+said p w = record { bytes = rw (← p) (w .bytes); past = rw (← p) (w .past) }
+
+-- nothing written yet
+pub nothing : (d : List ℕ) (at : ℕ) → Wrote d at [] d at
+unfolding overlay
+nothing d at = record { bytes = paste-zero d at []; past = sym (add-zero at) }
+
+-- a store writes one byte
+pub one-byte : (d : List ℕ) (at b : ℕ) → at < length d → set d at b ≡ overlay d at (b ∷ [])
+unfolding overlay
+one-byte d at b h = rw (set-split d at b, add-one, append-snoc)
+
+-- a write from the start
+pub from-start : (d s : List ℕ) → overlay d 0 s ≡ s ++ drop (length s) d
+unfolding overlay
+from-start d s = simp zero-add
+
+pub length-overlay : (d : List ℕ) (at : ℕ) (s : List ℕ) → at + length s ≤ length d → length (overlay d at s) ≡ length d
+unfolding overlay
+length-overlay d at s h = simp (length-append, length-take, length-drop) (omega arith)
+
+-- a part of w bytes, lent and given back as s
+pub part-back : (d : List ℕ) (at w : ℕ) (s : List ℕ) → length s ≡ w → take at d ++ (s ++ drop (at + w - at) (drop at d)) ≡ overlay d at s
+unfolding overlay
+part-back d at w s e =
+    let q : at + w - at ≡ w = omega arith in
+    rw (q, drop-drop, e) (sym (append-assoc (take at d) s (drop (at + w) d)))
+
+pub length-part : (d : List ℕ) (at w : ℕ) → at + w ≤ length d → length (take (at + w - at) (drop at d)) ≡ w
+length-part d at w h = simp (length-take, length-drop) (omega arith)

@@ -1,0 +1,92 @@
+-- Laws of places read. Assumes nothing.
+use mathlib.Core.Path.{_≡_, refl, sym, ap, _∙_}
+use mathlib.Core.Bool.{Bool, true, false, _&&_}
+use mathlib.Core.List.{List, [], _∷_, _++_, map}
+use Prim.Native.Nat.{ℕ, zero, suc, _+_, _*_, _^_, _≤_, _<_}
+use native.Mathlib.Nat.{not-suc-le-zero, le-of-suc-le-suc, mul-suc, add-comm}
+use native.Mathlib.Omega.{arith}
+use lib.Dec.{eqb}
+use lib.ListN.{length, take, drop, getD, set, length-map, length-drop, List·getD-map}
+use lib.Seq.{drop-drop, take-nil, take-add, length-take-le}
+use borrow.Author.Tests.{eqb-true}
+use Rattle.laws.proofs.Tests.{and-left, and-right}
+use Rattle.laws.proofs.Fill.{fill-more, fill-all}
+use Rattle.digits.specs.Decimal.{allDigits, numberFrom, numberOf}
+use Rattle.digits.proofs.Reading.{number-shift, number-join, digits-join}
+use Rattle.places.specs.declared.Place.{Place}
+use Rattle.places.specs.Bids.{slash, wellFormed, malformed, isPlace, placeOf, placesIn}
+
+-- a place's 24 characters as the words that the code reads: rate; slash and seven digits; eight digits
+drop-take : (k : ℕ) (s : List ℕ) → drop 1 (take (suc k) s) ≡ take k (drop 1 s)
+drop-take k [] = sym (take-nil k)
+drop-take k (b ∷ s) = refl
+
+pub after-slash : (s : List ℕ) → drop 1 (take 8 (drop 8 s)) ≡ take 7 (drop 9 s)
+after-slash s = drop-take 7 (drop 8 s) ∙ ap (take 7) (drop-drop 1 8 s)
+
+fifteen : (s : List ℕ) → take 15 (drop 9 s) ≡ take 7 (drop 9 s) ++ take 8 (drop 16 s)
+fifteen s = take-add 7 8 (drop 9 s) ∙ ap (λ (l : List ℕ). take 7 (drop 9 s) ++ take 8 l) (drop-drop 7 9 s)
+
+fifteen-number : (s : List ℕ) → length s ≡ 24 → numberOf (take 15 (drop 9 s)) ≡ numberOf (take 7 (drop 9 s)) * 100000000 + numberOf (take 8 (drop 16 s))
+fifteen-number s h =
+    let l : length (take 8 (drop 16 s)) ≡ 8 = length-take-le 8 (drop 16 s) (simp length-drop (omega arith)) in
+    ap numberOf (fifteen s) ∙ number-join 0 (take 7 (drop 9 s)) (take 8 (drop 16 s)) ∙ number-shift (numberOf (take 7 (drop 9 s))) (take 8 (drop 16 s))
+    ∙ ap (λ (k : ℕ). numberOf (take 7 (drop 9 s)) * 10 ^ k + numberOf (take 8 (drop 16 s))) l
+
+-- what a well-formed place says of its parts
+pub record Parts (s : List ℕ) : Type 0 where
+  pub long : length s ≡ 24
+  pub slashed : getD s 8 0 ≡ slash
+  pub rate : allDigits (take 8 s) ≡ true
+  pub high : allDigits (take 7 (drop 9 s)) ≡ true
+  pub low : allDigits (take 8 (drop 16 s)) ≡ true
+
+pub parts-of : (s : List ℕ) → length s ≡ 24 → isPlace s ≡ true → Parts s
+unfolding isPlace
+parts-of s l h =
+    let a = and-left (eqb (getD s 8 0) slash && allDigits (take 8 s)) (allDigits (take 15 (drop 9 s))) h in
+    let b = and-right (eqb (getD s 8 0) slash && allDigits (take 8 s)) (allDigits (take 15 (drop 9 s))) h in
+    let e : (allDigits (take 7 (drop 9 s)) && allDigits (take 8 (drop 16 s))) ≡ true = sym (ap allDigits (fifteen s) ∙ digits-join (take 7 (drop 9 s)) (take 8 (drop 16 s))) ∙ b in
+    record {
+      long = l;
+      slashed = eqb-true (getD s 8 0) slash (and-left (eqb (getD s 8 0) slash) (allDigits (take 8 s)) a);
+      rate = and-right (eqb (getD s 8 0) slash) (allDigits (take 8 s)) a;
+      high = and-left (allDigits (take 7 (drop 9 s))) (allDigits (take 8 (drop 16 s))) e;
+      low = and-right (allDigits (take 7 (drop 9 s))) (allDigits (take 8 (drop 16 s))) e;
+    }
+
+-- the place that the words make, and where the test fails
+pub place-is : (s : List ℕ) → length s ≡ 24 → isPlace s ≡ true → (r a b : ℕ) → r ≡ numberOf (take 8 s) → a ≡ numberOf (take 7 (drop 9 s)) → b ≡ numberOf (take 8 (drop 16 s))
+    → wellFormed r (a * 100000000 + b) ≡ placeOf s
+unfolding placeOf
+place-is s l h r a b p q t = rw (h, fifteen-number s l, p, q, t)
+
+pub malformed-is : (s : List ℕ) → isPlace s ≡ false → malformed ≡ placeOf s
+unfolding placeOf
+malformed-is s h = rw h
+
+-- place k of n
+length-places : (n : ℕ) (s : List ℕ) → length (placesIn n s) ≡ n
+unfolding placesIn
+length-places zero s = refl
+length-places (suc n) s = ap suc (length-places n (drop 24 s))
+
+place-at : (n : ℕ) (s : List ℕ) (k : ℕ) → k < n → getD (placesIn n s) k malformed ≡ placeOf (take 24 (drop (24 * k) s))
+unfolding placesIn
+place-at zero s k h = absurd (not-suc-le-zero h)
+place-at (suc n) s zero h = refl
+place-at (suc n) s (suc k) h = rw (mul-suc, add-comm, ← drop-drop (24 * k) 24) (place-at n (drop 24 s) k (le-of-suc-le-suc h))
+
+-- a column of the places: one more entry, and all of them
+module _ {A : Type 0} (f : Place → A) (n : ℕ) (s : List ℕ) (dst : List A) (l : length dst ≡ n) where
+  length-column : length (map f (placesIn n s)) ≡ n
+  length-column = length-map (placesIn n s) f ∙ length-places n s
+
+  pub column-more : (cur : List A) (k : ℕ) (p : Place) → k < n → p ≡ placeOf (take 24 (drop (24 * k) s)) → cur ≡ take k (map f (placesIn n s)) ++ drop k dst
+      → set cur k (f p) ≡ take (k + 1) (map f (placesIn n s)) ++ drop (k + 1) dst
+  column-more cur k p h e c =
+      let v : f p ≡ getD (map f (placesIn n s)) k (f malformed) = sym (List·getD-map f (placesIn n s) k malformed ∙ ap f (place-at n s k h ∙ sym e)) in
+      fill-more (map f (placesIn n s)) dst cur k (f p) (f malformed) (omega (arith, length-column)) (omega arith) v c
+
+  pub column-all : take n (map f (placesIn n s)) ++ drop n dst ≡ map f (placesIn n s)
+  column-all = fill-all (map f (placesIn n s)) dst n (omega (arith, length-column)) (omega arith)
