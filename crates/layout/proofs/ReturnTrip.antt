@@ -169,3 +169,19 @@ encoded-back (e ∷ es) (t ∷ ts) m w h l c =
     let s = first e es m h in
     rw (encoded-back es ts (drop (3 + lengthAt m) m) (narrow-rest e es w) (rest e es m h) (omega arith) (contents-rest 0 ts m (c .1)), c .0)
     (again (e .tag) m (starts-fits e m s) (small e es (lengthAt m) w (starts-length e m s)) (starts-tag e m s))
+
+-- fields written are as long as their heads and contents
+unfoldable pub sizes : List (List ℕ) → ℕ
+sizes [] = 0
+sizes (t ∷ ts) = 3 + length t + sizes ts
+
+length-of : (tag : ℕ) (t : List ℕ) → length (field tag t) ≡ 3 + length t
+unfolding field
+length-of tag t = omega arith
+
+pub length-encoded : (es : List Entry) (ts : List (List ℕ)) → length ts ≡ length es → length (encoded es ts) ≡ sizes ts
+unfolding encoded sizes
+length-encoded [] [] l = refl
+length-encoded [] (t ∷ ts) l = absurd (let z : ⊥ = omega arith in z)
+length-encoded (e ∷ es) [] l = absurd (let z : ⊥ = omega arith in z)
+length-encoded (e ∷ es) (t ∷ ts) l = simp (length-append, length-of, length-encoded es ts (omega arith))

@@ -10,7 +10,7 @@ use lib.ListN.{length, take, drop, getD, set, length-map, length-drop, List·get
 use lib.Seq.{drop-drop, take-nil, take-add, length-take-le}
 use borrow.Author.Tests.{eqb-true}
 use Rattle.laws.proofs.Tests.{and-left, and-right}
-use Rattle.laws.proofs.Fill.{fill-more, fill-all}
+use Rattle.laws.proofs.Arrays.{fill-more, fill-all}
 use Rattle.digits.specs.Decimal.{allDigits, numberFrom, numberOf}
 use Rattle.digits.proofs.Reading.{number-shift, number-join, digits-join}
 use Rattle.places.specs.declared.Place.{Place}

@@ -1,11 +1,11 @@
--- An array that a loop fills from the front: its first i entries are the source's. Assumes nothing.
-use mathlib.Core.Path.{_≡_, refl, ap, _∙_}
-use mathlib.Core.List.{List, [], _∷_, _++_, append-nil}
+-- Arrays: one that a loop fills from the front, and the length of one of structs. Assumes nothing.
+use mathlib.Core.Path.{_≡_, refl, sym, ap, _∙_}
+use mathlib.Core.List.{List, [], _∷_, _++_, map, append-nil}
 use Prim.Native.Nat.{ℕ, zero, suc, _+_, _≤_, _<_}
 use native.Mathlib.Nat.{not-suc-le-zero, le-of-suc-le-suc}
 use native.Mathlib.Numerals.{add-one}
 use native.Mathlib.Omega.{arith}
-use lib.ListN.{length, take, drop, getD, set, drop-of-length-le}
+use lib.ListN.{length, take, drop, getD, set, length-map, drop-of-length-le}
 use lib.Seq.{take-all}
 
 module _ {A : Type 0} where
@@ -22,3 +22,7 @@ module _ {A : Type 0} where
   -- all entries are stored
   pub fill-all : (src dst : List A) (n : ℕ) → length src ≤ n → length dst ≤ n → take n src ++ drop n dst ≡ src
   fill-all src dst n h k = rw (take-all n src h, drop-of-length-le dst {i = n} k) (append-nil src)
+
+-- what is known of the values in an array of structs says the array's length
+pub length-mapped : (X Y : Type 0) (f : X → Y) (l : List X) (n : ℕ) → length (map f l) ≡ n → length l ≡ n
+length-mapped X Y f l n p = sym (length-map l f) ∙ p

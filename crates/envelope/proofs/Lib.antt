@@ -1,0 +1,2 @@
+pub mod Fields6G1
+pub mod Writing

@@ -1,0 +1,3 @@
+pub mod Refusals
+pub mod Application
+pub mod Writing

@@ -1,0 +1,280 @@
+// A 6G1, the application: read from bytes and written from numbers and texts.
+use digits::Digits;
+use digits::all_digits;
+use digits::internal::number;
+use digits::internal::put_digits;
+use layout::internal::contents;
+use layout::internal::put_field;
+use layout::internal::put_head;
+use places::Amount;
+use places::Places;
+use places::Rate;
+use places::internal::put_places;
+use places::internal::read_places;
+use places::places_fit;
+ghost use mathlib.Core.Path.{_≡_};
+ghost use mathlib.Core.Bool.{true};
+ghost use Prim.Native.Nat.{_+_, _≤_};
+ghost use lib.ListN.{length};
+ghost use Rattle.output.specs.Output.{Wrote};
+ghost use Rattle.digits.specs.Decimal.{digits, digitsOf};
+ghost use Rattle.layout.specs.Fields.{field, readable, content, whole};
+ghost use Rattle.places.specs.Bids.{placesText};
+ghost use Rattle.envelope.specs.Application.{layout6G1, position, fieldBytes, fieldsOf, readRefusal, reading, isIdentifier, numbersFit, textsFit, writeRefusal, write};
+ghost use Rattle.envelope.specs.Writing.{firstFields, lastFields};
+
+// The fields of a 6G1, in their order.
+pub enum Field {
+    MessageType,
+    Sender,
+    Recipient,
+    Cro,
+    Date,
+    Time,
+    Check,
+    Identifier,
+    Bids,
+    Name,
+}
+
+// The numbers of a 6G1: of each digit field, and of each of the ten places.
+pub struct Fields {
+    pub sender: Digits,
+    pub recipient: Digits,
+    pub cro: Digits,
+    pub date: Digits,
+    pub time: Digits,
+    pub check: Digits,
+    pub places: Places,
+}
+
+pub enum ReadAnswer {
+    Readable,
+    Unreadable,
+}
+
+pub struct Reading {
+    pub answer: ReadAnswer,
+    pub fields: Fields,
+}
+
+// The numbers that a 6G1 is written from.
+pub struct Application {
+    pub sender: u64,
+    pub recipient: u64,
+    pub cro: u64,
+    pub date: u64,
+    pub time: u64,
+    pub check: u64,
+    pub rates: [Rate; 10],
+    pub amounts: [Amount; 10],
+}
+
+pub enum WriteAnswer {
+    Written,
+    Unfit,
+    NoRoom,
+}
+
+// Whether m has the fields of a 6G1, in order, with their lengths, and nothing after them.
+pub fn is_6g1(m: &[u8]) -> bool
+    ensures { λ r. ⌜ r ≡ readable layout6G1 (now (m .entry)) ⌝ }
+{
+    layout::readable(
+        b"\x01\x03\x03\x04\x05\x05\x05\x05\x05\x02\x0b\x0b\x31\x08\x08\x60\x06\x06\x10\x05\x05\x70\x0b\x0b\x76\xf0\xf0\x7f\x0f\x0f",
+        m,
+    )
+}
+
+// The place of a field in the layout.
+fn position_of(f: Field) -> usize
+    ensures { λ r. ⌜ r ≡ position f ⌝ }
+{
+    match f {
+        Field::MessageType => 0,
+        Field::Sender => 1,
+        Field::Recipient => 2,
+        Field::Cro => 3,
+        Field::Date => 4,
+        Field::Time => 5,
+        Field::Check => 6,
+        Field::Identifier => 7,
+        Field::Bids => 8,
+        Field::Name => 9,
+    }
+}
+
+// The bytes of a field, or none where m is no 6G1.
+pub fn bytes(m: &[u8], f: Field) -> &[u8]
+    ensures { λ r. ⌜ now r ≡ fieldBytes f (now (m .entry)) ⌝ }
+{
+    if is_6g1(m) {
+        contents(m, position_of(f))
+    } else {
+        &m[0..0]
+    }
+}
+
+// The number in field k, counted from 0.
+fn number_in(m: &[u8], k: usize) -> Digits
+    requires { ⌜ whole k (now m) ≡ true ⌝ }
+    requires { ⌜ length (content k (now m)) ≤ 19 ⌝ }
+    ensures { λ r. ⌜ r ≡ digitsOf (content k (now (m .entry))) ⌝ }
+{
+    number(contents(m, k))
+}
+
+// The numbers of a readable 6G1.
+fn fields_of(m: &[u8]) -> Fields
+    requires { ⌜ readable layout6G1 (now m) ≡ true ⌝ }
+    ensures { λ r. ⌜ r ≡ fieldsOf (now (m .entry)) ⌝ }
+{
+    let sender = number_in(m, 1);
+    let recipient = number_in(m, 2);
+    let cro = number_in(m, 3);
+    let date = number_in(m, 4);
+    let time = number_in(m, 5);
+    let check = number_in(m, 6);
+    let places = read_places(contents(m, 8));
+    Fields {
+        sender,
+        recipient,
+        cro,
+        date,
+        time,
+        check,
+        places,
+    }
+}
+
+// Reads a 6G1, or refuses what is none and gives no numbers.
+pub fn read(m: &[u8]) -> Reading
+    ensures { λ r. ⌜ (readRefusal (r .answer), r .fields) ≡ reading (now (m .entry)) ⌝ }
+{
+    if is_6g1(m) {
+        Reading {
+            answer: ReadAnswer::Readable,
+            fields: fields_of(m),
+        }
+    } else {
+        Reading {
+            answer: ReadAnswer::Unreadable,
+            fields: Fields {
+                sender: Digits::None,
+                recipient: Digits::None,
+                cro: Digits::None,
+                date: Digits::None,
+                time: Digits::None,
+                check: Digits::None,
+                places: Places {
+                    formed: [false; 10],
+                    rates: [Rate(0); 10],
+                    amounts: [Amount(0); 10],
+                },
+            },
+        }
+    }
+}
+
+// Whether a text is an operation identifier, T/yyyy/nnnn.
+pub fn is_identifier(s: &[u8]) -> bool
+    ensures { λ r. ⌜ r ≡ isIdentifier (now (s .entry)) ⌝ }
+{
+    if s.len() == 11 {
+        (s[0] == b'T')
+            & (s[1] == b'/')
+            & all_digits(&s[2..6])
+            & (s[6] == b'/')
+            & all_digits(&s[7..11])
+    } else {
+        false
+    }
+}
+
+// Whether each number fits the width of its field.
+fn numbers_fit(a: Application) -> bool
+    ensures { λ r. ⌜ r ≡ numbersFit a ⌝ }
+{
+    let rates = a.rates;
+    let amounts = a.amounts;
+    (a.sender < 100000)
+        & (a.recipient < 100000)
+        & (a.cro < 100000000000)
+        & (a.date < 100000000)
+        & (a.time < 1000000)
+        & (a.check < 100000)
+        & places_fit(rates, amounts)
+}
+
+// Whether each text has the length of its field and the identifier is one.
+fn texts_fit(kind: &[u8], identifier: &[u8], name: &[u8]) -> bool
+    ensures { λ r. ⌜ r ≡ textsFit (now (kind .entry)) (now (identifier .entry)) (now (name .entry)) ⌝ }
+{
+    (kind.len() == 3) & is_identifier(identifier) & (name.len() == 15)
+}
+
+// Writes a field of w digits and answers the index past it.
+fn put_number(space: &mut [u8], at: usize, tag: u8, w: usize, n: u64) -> usize
+    requires { ⌜ at + 3 + w ≤ length (now space) ⌝ }
+    ensures { λ r. ⌜ Wrote (now (space .entry)) at (field tag (digits w n)) (now (space .exit)) r × (r ≡ at + 3 + w) ⌝ }
+{
+    let start = put_head(space, at, tag, w);
+    put_digits(space, start, w, n)
+}
+
+// Writes the field of the ten places.
+fn put_bids(space: &mut [u8], at: usize, rates: [Rate; 10], amounts: [Amount; 10]) -> usize
+    requires { ⌜ at + 243 ≤ length (now space) ⌝ }
+    ensures { λ r. ⌜ Wrote (now (space .entry)) at (field 0x76 (placesText rates amounts)) (now (space .exit)) r × (r ≡ at + 243) ⌝ }
+{
+    let start = put_head(space, at, 0x76, 240);
+    put_places(space, start, rates, amounts)
+}
+
+// Writes type, sender, recipient, CRO and reference date.
+fn put_first(space: &mut [u8], a: Application, kind: &[u8]) -> usize
+    requires { ⌜ (length (now kind) ≡ 3) × (47 ≤ length (now space)) ⌝ }
+    ensures { λ r. ⌜ Wrote (now (space .entry)) 0 (firstFields a (now (kind .entry))) (now (space .exit)) r × (r ≡ 47) ⌝ }
+{
+    let sender = put_field(space, 0, 0x01, kind);
+    let recipient = put_number(space, sender, 0x04, 5, a.sender);
+    let cro = put_number(space, recipient, 0x05, 5, a.recipient);
+    let date = put_number(space, cro, 0x02, 11, a.cro);
+    put_number(space, date, 0x31, 8, a.date)
+}
+
+// Writes reference time, check digit, identifier, bids and name.
+fn put_last(space: &mut [u8], at: usize, a: Application, identifier: &[u8], name: &[u8]) -> usize
+    requires { ⌜ (length (now identifier) ≡ 11) × (length (now name) ≡ 15) × (at + 292 ≤ length (now space)) ⌝ }
+    ensures { λ r. ⌜ Wrote (now (space .entry)) at (lastFields a (now (identifier .entry)) (now (name .entry))) (now (space .exit)) r ⌝ }
+{
+    let rates = a.rates;
+    let amounts = a.amounts;
+    let check = put_number(space, at, 0x60, 6, a.time);
+    let tail = put_number(space, check, 0x10, 5, a.check);
+    let bids = put_field(space, tail, 0x70, identifier);
+    let contact = put_bids(space, bids, rates, amounts);
+    put_field(space, contact, 0x7f, name)
+}
+
+// Writes a 6G1 at the start of a space, or refuses and leaves every byte as it was.
+pub fn write(
+    a: Application,
+    kind: &[u8],
+    identifier: &[u8],
+    name: &[u8],
+    space: &mut [u8],
+) -> WriteAnswer
+    ensures { λ r. ⌜ (writeRefusal r, now (space .exit)) ≡ write a (now (kind .entry)) (now (identifier .entry)) (now (name .entry)) (now (space .entry)) ⌝ }
+{
+    if numbers_fit(a) & texts_fit(kind, identifier, name) {
+        if space.len() < 339 {
+            return WriteAnswer::NoRoom;
+        }
+        let half = put_first(space, a, kind);
+        put_last(space, half, a, identifier, name);
+        WriteAnswer::Written
+    } else {
+        WriteAnswer::Unfit
+    }
+}

@@ -1,0 +1,2 @@
+// The messages of a tender as bytes. It knows nothing of tenders.
+pub mod application;
