@@ -1,2 +1,3 @@
 pub mod Fields6G1
 pub mod Writing
+pub mod ReturnTrip

@@ -1,3 +1,4 @@
 pub mod Refusals
 pub mod Application
 pub mod Writing
+pub mod ReturnTrip

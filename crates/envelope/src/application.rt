@@ -267,14 +267,13 @@ pub fn write(
 ) -> WriteAnswer
     ensures { λ r. ⌜ (writeRefusal r, now (space .exit)) ≡ write a (now (kind .entry)) (now (identifier .entry)) (now (name .entry)) (now (space .entry)) ⌝ }
 {
-    if numbers_fit(a) & texts_fit(kind, identifier, name) {
-        if space.len() < 339 {
-            return WriteAnswer::NoRoom;
-        }
-        let half = put_first(space, a, kind);
-        put_last(space, half, a, identifier, name);
-        WriteAnswer::Written
-    } else {
-        WriteAnswer::Unfit
+    if !(numbers_fit(a) & texts_fit(kind, identifier, name)) {
+        return WriteAnswer::Unfit;
     }
+    if space.len() < 339 {
+        return WriteAnswer::NoRoom;
+    }
+    let half = put_first(space, a, kind);
+    put_last(space, half, a, identifier, name);
+    WriteAnswer::Written
 }

@@ -1,17 +1,16 @@
--- `envelope::application::write` meets its contract. Assumes nothing.
+-- `envelope::application::write` meets its contract: the refusals in their order, then both parts. Assumes nothing.
 use borrow.Author.Needs.{needs}
-use borrow.Author.Tests.{lt-ltb, le-ltb}
-use mathlib.Core.Path.{_≡_, sym, ap, ap₂, _∙_}
-use mathlib.Core.Bool.{Bool, true, _&&_}
+use borrow.Author.Tests.{lt-ltb, le-ltb, not-true, not-false}
+use mathlib.Core.Path.{_≡_, _∙_}
+use mathlib.Core.Bool.{Bool, true, false, not, _&&_}
 use Prim.Native.Nat.{zero-le}
-use native.Mathlib.Omega.{arith}
 use denote.Ref.{now}
 use lib.ListN.{length}
 use Rattle.laws.proofs.Arrays.{length-mapped}
-use Rattle.laws.proofs.Tests.{and-left, and-right}
+use Rattle.laws.proofs.Tests.{and-right}
 use Rattle.output.proofs.Output.{then, said, from-start}
 use Rattle.envelope.specs.Refusals.{firstHolding}
-use Rattle.envelope.specs.Application.{numbersFit, textsFit, written, write}
+use Rattle.envelope.specs.Application.{numbersFit, textsFit, write}
 use Rattle.envelope.proofs.Writing.{both-parts, length-written, length-kind, length-identifier, length-name}
 use Rattle.envelope.proofs.application.write.Statement.{statement}
 use Rattle.envelope.proofs.application.write.Tie as tie
@@ -20,11 +19,14 @@ use Rattle.envelope.proofs.application.write.Tie as tie
 tested : (c : tie.After-texts-fit) → (numbersFit (c .before .before .before .before .before .before .args .a) && textsFit (now (c .before .before .before .before .before .before .args .kind)) (now (c .before .before .before .before .before .before .args .identifier)) (now (c .before .before .before .before .before .before .args .name))) ≡ (c .before .numbers-fit .result && c .texts-fit .result)
 tested c = rw (c .before .numbers-fit .ensures, c .texts-fit .ensures)
 
--- the texts fit where the test held
-texts : (c : tie.Then1) → textsFit (now (c .before .before .before .before .before .before .before .args .kind)) (now (c .before .before .before .before .before .before .before .args .identifier)) (now (c .before .before .before .before .before .before .before .args .name)) ≡ true
+-- past the first refusal numbers and texts fit
+fit : (c : tie.Else1) → (numbersFit (c .before .before .before .before .before .before .before .args .a) && textsFit (now (c .before .before .before .before .before .before .before .args .kind)) (now (c .before .before .before .before .before .before .before .args .identifier)) (now (c .before .before .before .before .before .before .before .args .name))) ≡ true
+fit c = tested (c .before) ∙ not-false (c .before .before .numbers-fit .result && c .before .texts-fit .result) (c .if1 .left)
+
+texts : (c : tie.Else1) → textsFit (now (c .before .before .before .before .before .before .before .args .kind)) (now (c .before .before .before .before .before .before .before .args .identifier)) (now (c .before .before .before .before .before .before .before .args .name)) ≡ true
 texts c =
     let a = c .before .before .before .before .before .before .before .args in
-    and-right (numbersFit (a .a)) (textsFit (now (a .kind)) (now (a .identifier)) (now (a .name))) (tested (c .before) ∙ c .if1 .taken)
+    and-right (numbersFit (a .a)) (textsFit (now (a .kind)) (now (a .identifier)) (now (a .name))) (fit c)
 
 ten-rates : (c : tie.Start) → length (c .args .a .rates) ≡ 10
 ten-rates c = search (needs, length-mapped)
@@ -40,7 +42,11 @@ texts-fit-requires c κs = search needs
 
 returns : tie.Need-returns
 unfolding write firstHolding
-returns c = rw (tested (c .before .before) ∙ c .before .if1 .taken, lt-ltb (length (now (c .before .before .before .before .before .before .before .before .args .space))) 339 (c .if2 .taken))
+returns c = rw (tested (c .before) ∙ not-true (c .before .before .numbers-fit .result && c .before .texts-fit .result) (c .if1 .taken))
+
+returns-2 : tie.Need-returns-2
+unfolding write firstHolding
+returns-2 c = rw (fit (c .before), lt-ltb (length (now (c .before .before .before .before .before .before .before .before .args .space))) 339 (c .if2 .taken))
 
 put-first-requires : tie.Need-put-first-requires
 put-first-requires c κs =
@@ -56,9 +62,9 @@ put-last-requires c κs =
 same-length : tie.Need-same-length
 same-length c = search needs
 
-returns-2 : tie.Need-returns-2
+returns-3 : tie.Need-returns-3
 unfolding write firstHolding
-returns-2 c =
+returns-3 c =
     let start = c .before .before .before .before .before .before .before .before .before .before .before .before .before .before .before .before in
     let a = start .args in
     let kind = now (a .kind) in
@@ -67,11 +73,7 @@ returns-2 c =
     let t = texts (c .before .before .before .before .before .before .before .before .before) in
     let w = said (both-parts (a .a) kind identifier name) (then zero-le (c .before .before .before .before .before .before .put-first .ensures .0) (c .before .before .put-last .ensures)) in
     let l = length-written (a .a) kind identifier name (length-kind kind identifier name t) (length-identifier kind identifier name t) (length-name kind identifier name t) (ten-rates start) (ten-amounts start) in
-    rw (tested (c .before .before .before .before .before .before .before .before .before .before) ∙ c .before .before .before .before .before .before .before .before .before .if1 .taken, le-ltb (length (now (a .space))) 339 (c .before .before .before .before .before .before .before .before .if2 .left), w .bytes, from-start, l)
-
-returns-3 : tie.Need-returns-3
-unfolding write firstHolding
-returns-3 c = rw (tested (c .before) ∙ c .if1 .left)
+    rw (fit (c .before .before .before .before .before .before .before .before .before), le-ltb (length (now (a .space))) 339 (c .before .before .before .before .before .before .before .before .if2 .left), w .bytes, from-start, l)
 
 pub write-spec : {M : Type 1} → statement M
 write-spec =
@@ -80,8 +82,8 @@ write-spec =
     numbers-fit-requires
     texts-fit-requires
     returns
+    returns-2
     put-first-requires
     put-last-requires
     same-length
-    returns-2
     returns-3)
