@@ -47,18 +47,37 @@ seven a b c d e f g h =
 module _ (a : Application) (kind identifier name : List ℕ) (ten : TenPlaces a) (nf : numbersFit a ≡ true) (tf : textsFit kind identifier name ≡ true) where
   permitted : Permitted layout6G1 (texts a kind identifier name)
   unfolding layout6G1 Permitted
-  permitted =
-      (permits-fixed 3 kind (length-kind kind identifier name tf),
-      (permits-fixed 5 (digits 5 (a .sender)) (length-digits 5 (a .sender)),
-      (permits-fixed 5 (digits 5 (a .recipient)) (length-digits 5 (a .recipient)),
-      (permits-fixed 11 (digits 11 (a .cro)) (length-digits 11 (a .cro)),
-      (permits-fixed 8 (digits 8 (a .date)) (length-digits 8 (a .date)),
-      (permits-fixed 6 (digits 6 (a .time)) (length-digits 6 (a .time)),
-      (permits-fixed 5 (digits 5 (a .check)) (length-digits 5 (a .check)),
-      (permits-fixed 11 identifier (length-identifier kind identifier name tf),
-      (permits-fixed 240 (placesText (a .rates) (a .amounts)) (length-places 10 (a .rates) (a .amounts) (ten .0) (ten .1)),
-      (permits-fixed 15 name (length-name kind identifier name tf),
-      tt))))))))))
+  permitted = (
+    permits-fixed 3 kind (length-kind kind identifier name tf),
+    (
+      permits-fixed 5 (digits 5 (a .sender)) (length-digits 5 (a .sender)),
+      (
+        permits-fixed 5 (digits 5 (a .recipient)) (length-digits 5 (a .recipient)),
+        (
+          permits-fixed 11 (digits 11 (a .cro)) (length-digits 11 (a .cro)),
+          (
+            permits-fixed 8 (digits 8 (a .date)) (length-digits 8 (a .date)),
+            (
+              permits-fixed 6 (digits 6 (a .time)) (length-digits 6 (a .time)),
+              (
+                permits-fixed 5 (digits 5 (a .check)) (length-digits 5 (a .check)),
+                (
+                  permits-fixed 11 identifier (length-identifier kind identifier name tf),
+                  (
+                    permits-fixed 240 (placesText (a .rates) (a .amounts)) (length-places 10 (a .rates) (a .amounts) (ten .0) (ten .1)),
+                    (
+                      permits-fixed 15 name (length-name kind identifier name tf),
+                      tt,
+                    ),
+                  ),
+                ),
+              ),
+            ),
+          ),
+        ),
+      ),
+    ),
+  )
 
   readable-written : readable layout6G1 (written a kind identifier name) ≡ true
   unfolding written layout6G1 narrow allBelow
@@ -116,8 +135,7 @@ written-reads-back a kind identifier name space after ten h =
     let p = accepted a kind identifier name space after h .0 in
     let nf = and-left (numbersFit a) (textsFit kind identifier name) p in
     let tf = and-right (numbersFit a) (textsFit kind identifier name) p in
-    let e = ap (take 339) (after-is a kind identifier name space after h) ∙ take-written a kind identifier name ten nf tf (drop 339 space) in
-    (
+    let e = ap (take 339) (after-is a kind identifier name space after h) ∙ take-written a kind identifier name ten nf tf (drop 339 space) in (
       ap reading e ∙ reading-written a kind identifier name ten nf tf,
       ap (fieldBytes MessageType) e ∙ bytes-written a kind identifier name ten nf tf MessageType (lit< tt),
       ap (fieldBytes Identifier) e ∙ bytes-written a kind identifier name ten nf tf Identifier (lit< tt),
@@ -187,18 +205,37 @@ module _ (m : List ℕ) (r : readable layout6G1 m ≡ true) (h : allWellFormed (
   written-again : written (applicationFrom (fieldsOf m)) (bytesOf MessageType m) (bytesOf Identifier m) (bytesOf Name m) ≡ m
   unfolding written layout6G1 narrow allBelow Contents fieldsOf placesOf
   written-again =
-      encoded-back layout6G1 (texts (applicationFrom (fieldsOf m)) (bytesOf MessageType m) (bytesOf Identifier m) (bytesOf Name m)) m refl r refl
-      (refl,
-      (field-again m r Sender (each .0),
-      (field-again m r Recipient (each .1),
-      (field-again m r Cro (each .2),
-      (field-again m r Date (each .3),
-      (field-again m r Time (each .4),
-      (field-again m r Check (each .5),
-      (refl,
-      (places-written 10 (bytesOf Bids m) (length-field m r Bids) (each .6),
-      (refl,
-      tt))))))))))
+      encoded-back layout6G1 (texts (applicationFrom (fieldsOf m)) (bytesOf MessageType m) (bytesOf Identifier m) (bytesOf Name m)) m refl r refl (
+        refl,
+        (
+          field-again m r Sender (each .0),
+          (
+            field-again m r Recipient (each .1),
+            (
+              field-again m r Cro (each .2),
+              (
+                field-again m r Date (each .3),
+                (
+                  field-again m r Time (each .4),
+                  (
+                    field-again m r Check (each .5),
+                    (
+                      refl,
+                      (
+                        places-written 10 (bytesOf Bids m) (length-field m r Bids) (each .6),
+                        (
+                          refl,
+                          tt,
+                        ),
+                      ),
+                    ),
+                  ),
+                ),
+              ),
+            ),
+          ),
+        ),
+      )
 
 pub readable-writes-back : ReadableWritesBack
 unfolding write firstHolding

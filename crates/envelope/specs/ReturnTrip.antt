@@ -23,7 +23,7 @@ fieldsFrom a =
       date = Number (a .date);
       time = Number (a .time);
       check = Number (a .check);
-      places = record { formed = replicate 10 true; rates = a .rates; amounts = a .amounts }
+      places = record { formed = replicate 10 true; rates = a .rates; amounts = a .amounts };
     }
 
 -- '(bids: ten places)'; an application of the code always has them, its arrays being of ten
@@ -72,7 +72,7 @@ applicationFrom f =
       time = numberIn (f .time);
       check = numberIn (f .check);
       rates = f .places .rates;
-      amounts = f .places .amounts
+      amounts = f .places .amounts;
     }
 
 -- 'and a readable one written from its fields gives its bytes'

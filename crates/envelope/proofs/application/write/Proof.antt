@@ -4,6 +4,7 @@ use borrow.Author.Tests.{lt-ltb, le-ltb, not-true, not-false}
 use mathlib.Core.Path.{_≡_, _∙_}
 use mathlib.Core.Bool.{Bool, true, false, not, _&&_}
 use Prim.Native.Nat.{zero-le}
+use native.Mathlib.Omega.{arith}
 use denote.Ref.{now}
 use lib.ListN.{length}
 use Rattle.laws.proofs.Arrays.{length-mapped}
@@ -46,7 +47,7 @@ returns c = rw (tested (c .before) ∙ not-true (c .before .before .numbers-fit 
 
 returns-2 : tie.Need-returns-2
 unfolding write firstHolding
-returns-2 c = rw (fit (c .before), lt-ltb (length (now (c .before .before .before .before .before .before .before .before .args .space))) 339 (c .if2 .taken))
+returns-2 c = rw (fit (c .before), lt-ltb (length (now (c .before .before .before .before .before .before .before .before .args .space))) 339 (omega arith))
 
 put-first-requires : tie.Need-put-first-requires
 put-first-requires c κs =

@@ -1,0 +1,25 @@
+// Cases of the envelope that run instead of being proved. What is printed is held to the file
+// stdout, which was written from document 01.
+mod message;
+mod numbers;
+mod print;
+mod reading;
+mod times;
+mod writing;
+
+fn main() {
+    reading::valid();
+    reading::heads();
+    reading::contents();
+    reading::lengths();
+    numbers::fields();
+    numbers::places();
+    writing::numbers();
+    writing::texts();
+    writing::identifiers();
+    writing::kinds();
+    writing::spaces();
+    times::dates();
+    times::hours();
+    times::order();
+}

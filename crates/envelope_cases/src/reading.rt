@@ -1,0 +1,142 @@
+// What is readable as a 6G1 and what is not.
+use crate::message;
+use crate::print;
+use envelope::application::Field;
+use envelope::application::bytes;
+use envelope::application::read;
+ghost use Prim.Native.Nat.{_<_};
+
+// The refusal of a message and its digit fields.
+fn numbers(m: &[u8]) {
+    let f = read(m).fields;
+    let sender = f.sender;
+    let recipient = f.recipient;
+    let cro = f.cro;
+    let date = f.date;
+    let time = f.time;
+    let check = f.check;
+    print::text(b"valid");
+    print::number(message::refusal(m));
+    print::digits(sender);
+    print::digits(recipient);
+    print::digits(cro);
+    print::digits(date);
+    print::digits(time);
+    print::digits(check);
+    print::end();
+}
+
+// The bytes of a message's texts.
+fn texts(m: &[u8]) {
+    print::text(bytes(m, Field::MessageType));
+    print::text(bytes(m, Field::Identifier));
+    print::text(bytes(m, Field::Bids));
+    print::text(bytes(m, Field::Name));
+    print::end();
+}
+
+// The valid message: its refusal, its digit fields and the bytes of its texts.
+pub fn valid() {
+    let m = message::bytes();
+    numbers(&m);
+    texts(&m);
+}
+
+// A byte raised by one, and 255 made 0.
+fn next(b: u8) -> u8 {
+    if b == 255 { 0 } else { b + 1 }
+}
+
+// The refusal of the message with the byte at an index raised.
+fn raised(at: usize) -> u64 {
+    let m = message::bytes();
+    if at < 339 {
+        message::refusal(&message::with(at, next(m[at])))
+    } else {
+        0
+    }
+}
+
+// One tag or length byte altered.
+fn head_byte(at: usize) {
+    print::text(b"head byte");
+    print::number(at as u64);
+    print::number(raised(at));
+    print::end();
+}
+
+// The tag byte of a field, which stands at an index, and its two length bytes altered in turn.
+fn head(at: usize)
+    requires { ⌜ at < 339 ⌝ }
+{
+    head_byte(at);
+    head_byte(at + 1);
+    head_byte(at + 2);
+}
+
+// Each of the 30 tag and length bytes altered in turn: 12.
+pub fn heads() {
+    head(0);
+    head(6);
+    head(14);
+    head(22);
+    head(36);
+    head(47);
+    head(56);
+    head(64);
+    head(78);
+    head(321);
+}
+
+// How many bytes can be altered one by one and leave the message readable: the 309 of the contents.
+pub fn contents() {
+    let mut readable: u64 = 0;
+    let mut at = 0;
+    while at < 339 {
+        if raised(at) == 0 {
+            readable += 1;
+        }
+        at += 1;
+    }
+    print::text(b"altered and readable");
+    print::number(readable);
+    print::end();
+}
+
+// Every length from 0 to 400, the message and then zeros: the readable ones, and how many are refused.
+pub fn lengths() {
+    let m = message::bytes();
+    let mut long = [0u8; 401];
+    let mut i = 0;
+    while i < 339 {
+        long[i] = m[i];
+        i += 1;
+    }
+    lengths_of(&long);
+}
+
+// Whether a message is readable; its length is printed where it is.
+fn readable_length(m: &[u8]) -> bool {
+    let readable = message::refusal(m) == 0;
+    if readable {
+        print::text(b"readable length");
+        print::number(m.len() as u64);
+        print::end();
+    }
+    readable
+}
+
+// Every length below that of a text: the readable ones, and how many are refused.
+fn lengths_of(long: &[u8]) {
+    let mut refused: u64 = 0;
+    let mut n = 0;
+    while n < long.len() {
+        if !readable_length(&long[..n]) {
+            refused += 1;
+        }
+        n += 1;
+    }
+    print::text(b"refused lengths");
+    print::number(refused);
+    print::end();
+}

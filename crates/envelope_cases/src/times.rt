@@ -1,0 +1,64 @@
+// Dates, times and their order.
+use crate::print;
+
+fn date(n: u64) {
+    print::text(b"date");
+    print::number(n);
+    print::yes(calendar::valid_date(n));
+    print::end();
+}
+
+// Leap days, the ends of months, the years' bounds, and numbers of more digits than a date has.
+pub fn dates() {
+    date(29022012);
+    date(29022011);
+    date(29021900);
+    date(29022000);
+    date(29022100);
+    date(28021900);
+    date(1011900);
+    date(31121899);
+    date(31129999);
+    date(12012);
+    date(32012012);
+    date(31042012);
+    date(30042012);
+    date(31122012);
+    date(10132012);
+    date(10002012);
+    date(112032012);
+}
+
+fn hour(n: u64) {
+    print::text(b"time");
+    print::number(n);
+    print::yes(calendar::valid_time(n));
+    print::end();
+}
+
+pub fn hours() {
+    hour(0);
+    hour(235959);
+    hour(240000);
+    hour(235960);
+    hour(106000);
+    hour(105960);
+    hour(1000000);
+}
+
+fn later(date: u64, time: u64, day: u64, second: u64) {
+    print::number(date);
+    print::number(time);
+    print::yes(calendar::moment_later(date, time, day, second));
+    print::end();
+}
+
+// Moments against 110000 on 12 March 2012.
+pub fn order() {
+    later(12032012, 110000, 12032012, 110000);
+    later(12032012, 110001, 12032012, 110000);
+    later(13022012, 235959, 12032012, 110000);
+    later(11032013, 0, 12032012, 110000);
+    later(31122011, 235959, 12032012, 110000);
+    later(13032012, 0, 12032012, 110000);
+}
