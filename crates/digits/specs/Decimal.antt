@@ -26,6 +26,15 @@ numberOf s = numberFrom 0 s
 unfoldable pub digitsOf : List ℕ → Digits
 digitsOf s = cond (allDigits s) (Number (numberOf s)) None
 
+-- whether there is a number, and the number, 0 where there is none
+abbrev pub isNumber : Digits → Bool
+isNumber None = false
+isNumber (Number n) = true
+
+abbrev pub numberIn : Digits → ℕ
+numberIn None = 0
+numberIn (Number n) = n
+
 -- a number written as w digits
 unfoldable pub digits : ℕ → ℕ → List ℕ
 digits zero n = []

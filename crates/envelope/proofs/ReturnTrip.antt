@@ -12,7 +12,7 @@ use borrow.Author.Tests.{ltb-true, ltb-false, lt-ltb, le-ltb, eq-eqb}
 use Rattle.laws.proofs.Tests.{and-left, and-right}
 use Rattle.digits.specs.declared.Digits.{Digits}
 use Rattle.digits.specs.declared.Digits.the-variants.{Number, None}
-use Rattle.digits.specs.Decimal.{digits, digitsOf}
+use Rattle.digits.specs.Decimal.{digits, digitsOf, isNumber, numberIn}
 use Rattle.digits.proofs.Reading.{is-number, number-below}
 use Rattle.digits.proofs.Writing.{length-digits, read-written, number-written}
 use Rattle.layout.specs.Fields.{readable, content, encoded}
@@ -29,7 +29,7 @@ use Rattle.envelope.specs.declared.application.Fields.{Fields}
 use Rattle.envelope.specs.declared.application.Application.{Application}
 use Rattle.envelope.specs.Refusals.{firstHolding, unlessRefused}
 use Rattle.envelope.specs.Application.{layout6G1, position, bytesOf, fieldBytes, fieldsOf, noFields, reading, isIdentifier, numbersFit, textsFit, texts, written, write}
-use Rattle.envelope.specs.ReturnTrip.{fieldsFrom, TenPlaces, WrittenReadsBack, isNumber, allWellFormed, numberIn, applicationFrom, ReadableWritesBack}
+use Rattle.envelope.specs.ReturnTrip.{fieldsFrom, TenPlaces, WrittenReadsBack, allWellFormed, applicationFrom, ReadableWritesBack}
 use Rattle.envelope.proofs.Fields6G1.{width, length-field}
 use Rattle.envelope.proofs.Writing.{length-written, length-kind, length-identifier, length-name}
 

@@ -19,7 +19,8 @@ use Rattle.envelope.specs.declared.application.Application.{Application}
 use Rattle.envelope.specs.declared.application.WriteAnswer.{WriteAnswer}
 use Rattle.envelope.specs.declared.application.WriteAnswer.the-variants.{Written, Unfit, NoRoom}
 
-abbrev one : ℕ → ℕ → Entry
+-- an entry of a field that has one length
+abbrev pub one : ℕ → ℕ → Entry
 one tag n = record { tag = tag; lengths = n ∷ [] }
 
 -- '6G1: 01 type (tag 01, 3); 040 sender (04, 5); 050 recipient (05, 5); 020 CRO (02, 11); D31 reference date (31, 8);

@@ -2,3 +2,5 @@ pub mod Refusals
 pub mod Application
 pub mod Writing
 pub mod ReturnTrip
+pub mod Announcement
+pub mod Parts

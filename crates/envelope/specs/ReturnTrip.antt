@@ -1,12 +1,12 @@
 -- The return trip (demand 2): what was written reads back, and what was read is written as it was. Assumes nothing.
 use mathlib.Core.Path.{_≡_}
-use mathlib.Core.Bool.{Bool, true, false, _&&_}
+use mathlib.Core.Bool.{Bool, true, _&&_}
 use mathlib.Core.List.{List, _++_}
 use mathlib.Core.Option.{Option, none}
 use Prim.Native.Nat.{ℕ, _≤_}
 use lib.ListN.{length, take, drop, replicate}
-use Rattle.digits.specs.declared.Digits.{Digits}
-use Rattle.digits.specs.declared.Digits.the-variants.{Number, None}
+use Rattle.digits.specs.declared.Digits.the-variants.{Number}
+use Rattle.digits.specs.Decimal.{isNumber, numberIn}
 use Rattle.places.specs.Bids.{allFormed}
 use Rattle.envelope.specs.declared.application.Field.the-variants.{MessageType, Identifier, Name}
 use Rattle.envelope.specs.declared.application.Fields.{Fields}
@@ -42,10 +42,6 @@ WrittenReadsBack =
     × (fieldBytes Name (take 339 after) ≡ name)
 
 -- 'readable messages whose digit fields are digits and identifier and places well formed'
-abbrev pub isNumber : Digits → Bool
-isNumber None = false
-isNumber (Number n) = true
-
 unfoldable pub allWellFormed : Fields → List ℕ → Bool
 allWellFormed f identifier =
     isNumber (f .sender)
@@ -58,10 +54,6 @@ allWellFormed f identifier =
     && isIdentifier identifier
 
 -- the application that a message's own numbers make
-abbrev pub numberIn : Digits → ℕ
-numberIn None = 0
-numberIn (Number n) = n
-
 abbrev pub applicationFrom : Fields → Application
 applicationFrom f =
     record {

@@ -1,7 +1,7 @@
 // A 6G1, the application: read from bytes and written from numbers and texts.
+use crate::internal::number_in;
 use digits::Digits;
 use digits::all_digits;
-use digits::internal::number;
 use digits::internal::put_digits;
 use layout::internal::contents;
 use layout::internal::put_field;
@@ -17,8 +17,8 @@ ghost use mathlib.Core.Bool.{true};
 ghost use Prim.Native.Nat.{_+_, _≤_};
 ghost use lib.ListN.{length};
 ghost use Rattle.output.specs.Output.{Wrote};
-ghost use Rattle.digits.specs.Decimal.{digits, digitsOf};
-ghost use Rattle.layout.specs.Fields.{field, readable, content, whole};
+ghost use Rattle.digits.specs.Decimal.{digits};
+ghost use Rattle.layout.specs.Fields.{field, readable};
 ghost use Rattle.places.specs.Bids.{placesText};
 ghost use Rattle.envelope.specs.Application.{layout6G1, position, fieldBytes, fieldsOf, readRefusal, reading, isIdentifier, numbersFit, textsFit, writeRefusal, write};
 ghost use Rattle.envelope.specs.Writing.{firstFields, lastFields};
@@ -113,15 +113,6 @@ pub fn bytes(m: &[u8], f: Field) -> &[u8]
     } else {
         &m[0..0]
     }
-}
-
-// The number in field k, counted from 0.
-fn number_in(m: &[u8], k: usize) -> Digits
-    requires { ⌜ whole k (now m) ≡ true ⌝ }
-    requires { ⌜ length (content k (now m)) ≤ 19 ⌝ }
-    ensures { λ r. ⌜ r ≡ digitsOf (content k (now (m .entry))) ⌝ }
-{
-    number(contents(m, k))
 }
 
 // The numbers of a readable 6G1.

@@ -1,9 +1,9 @@
--- `envelope::application::number_in` meets its contract. Assumes nothing.
+-- `envelope::internal::number_in` meets its contract. Assumes nothing.
 use borrow.Author.Needs.{needs}
 use mathlib.Core.Path.{ap, _∙_}
 use Rattle.digits.specs.Decimal.{digitsOf}
-use Rattle.envelope.proofs.application.number_in.Statement.{statement}
-use Rattle.envelope.proofs.application.number_in.Tie as tie
+use Rattle.envelope.proofs.internal.number_in.Statement.{statement}
+use Rattle.envelope.proofs.internal.number_in.Tie as tie
 
 contents-requires : tie.Need-contents-requires
 contents-requires c κs = search needs

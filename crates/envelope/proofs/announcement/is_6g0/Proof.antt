@@ -1,0 +1,19 @@
+-- `envelope::announcement::is_6g0` meets its contract: the code's bytes are the layout. Assumes nothing.
+use borrow.Author.Needs.{needs}
+use Rattle.layout.specs.Fields.{layoutOf}
+use Rattle.envelope.specs.Announcement.{layout6G0}
+use Rattle.envelope.proofs.announcement.is_6g0.Statement.{statement}
+use Rattle.envelope.proofs.announcement.is_6g0.Tie as tie
+
+slice-aggregate-readable : tie.Need-slice-aggregate-readable
+slice-aggregate-readable c = search needs
+
+readable-requires : tie.Need-readable-requires
+readable-requires c κs = search needs
+
+returns : tie.Need-returns
+unfolding layout6G0 layoutOf
+returns c = c .readable .ensures
+
+pub is-6g0-spec : {M : Type 1} → statement M
+is-6g0-spec = tie.close (tie.spec slice-aggregate-readable readable-requires returns)

@@ -1,0 +1,358 @@
+// A 6G0, the announcement of a tender, read from bytes.
+use crate::application::is_identifier;
+use crate::internal::number_in;
+use calendar::date_before;
+use digits::Digits;
+use digits::all_digits;
+use digits::internal::number;
+use layout::internal::contents;
+use places::Amount;
+use places::Rate;
+use texts::same;
+ghost use mathlib.Core.Path.{_≡_};
+ghost use mathlib.Core.Bool.{true, false};
+ghost use mathlib.Core.List.{[]};
+ghost use Prim.Native.Nat.{_+_, _-_, _≤_};
+ghost use lib.ListN.{length, take, drop};
+ghost use Rattle.layout.specs.Fields.{readable};
+ghost use Rattle.envelope.specs.Announcement.{layout6G0, position, fieldBytes, tenderTypeOf, widths, numbersIn, characteristicsFrom, characteristicsOf, referencesOf, announcementOf, noAnnouncement, reading, datesOrdered};
+ghost use Rattle.envelope.specs.Parts.{part, partNumber, firstParts, lastParts, amountsOf};
+
+// The fields of a 6G0, in their order.
+pub enum Field {
+    MessageType,
+    Sender,
+    Recipient,
+    Cro,
+    Date,
+    Time,
+    Identifier,
+    TenderType,
+    Characteristics,
+    SpotDate,
+    ForwardDate,
+    Cutoff,
+}
+
+// LA: the Treasury collects. LP: it invests.
+pub enum Side {
+    La,
+    Lp,
+}
+
+// What field 6G1 announces: the side, and whether it says Y; or none of the types.
+pub enum Kind {
+    Tender(Side, bool),
+    Unknown,
+}
+
+// Field 6G2: whether it is well formed, and its numbers, which are zeros where it is not.
+pub struct Characteristics {
+    pub formed: bool,
+    pub execution: u64,
+    pub most: u64,
+    pub offered: Amount,
+    pub minimum: Amount,
+    pub increment: Amount,
+    pub maximum: Amount,
+    pub allocation: Amount,
+    pub limit: Rate,
+}
+
+// The numbers of sender, recipient, CRO, reference date and reference time.
+pub struct References {
+    pub sender: Digits,
+    pub recipient: Digits,
+    pub cro: Digits,
+    pub date: Digits,
+    pub time: Digits,
+}
+
+// What a 6G0 says: the numbers of its digit fields, whether its identifier is one, its kind and
+// its characteristics.
+pub struct Announcement {
+    pub references: References,
+    pub identified: bool,
+    pub kind: Kind,
+    pub characteristics: Characteristics,
+    pub spot: Digits,
+    pub forward: Digits,
+    pub cutoff: Digits,
+}
+
+pub struct Reading {
+    pub readable: bool,
+    pub announcement: Announcement,
+}
+
+// The five amounts of field 6G2.
+struct Amounts {
+    offered: Amount,
+    minimum: Amount,
+    increment: Amount,
+    maximum: Amount,
+    allocation: Amount,
+}
+
+// Whether m has the fields of a 6G0, in order, with their lengths, and nothing after them.
+pub fn is_6g0(m: &[u8]) -> bool
+    ensures { λ r. ⌜ r ≡ readable layout6G0 (now (m .entry)) ⌝ }
+{
+    layout::readable(
+        b"\x01\x03\x03\x04\x05\x05\x05\x05\x05\x02\x0b\x0b\x31\x08\x08\x60\x06\x06\x70\x0b\x0b\x71\x12\x12\x72\x64\x64\x73\x08\x08\x74\x08\x08\x75\x06\x06",
+        m,
+    )
+}
+
+// The place of a field in the layout.
+fn position_of(f: Field) -> usize
+    ensures { λ r. ⌜ r ≡ position f ⌝ }
+{
+    match f {
+        Field::MessageType => 0,
+        Field::Sender => 1,
+        Field::Recipient => 2,
+        Field::Cro => 3,
+        Field::Date => 4,
+        Field::Time => 5,
+        Field::Identifier => 6,
+        Field::TenderType => 7,
+        Field::Characteristics => 8,
+        Field::SpotDate => 9,
+        Field::ForwardDate => 10,
+        Field::Cutoff => 11,
+    }
+}
+
+// The bytes of a field, or none where m is no 6G0.
+pub fn bytes(m: &[u8], f: Field) -> &[u8]
+    ensures { λ r. ⌜ now r ≡ fieldBytes f (now (m .entry)) ⌝ }
+{
+    if is_6g0(m) {
+        contents(m, position_of(f))
+    } else {
+        &m[0..0]
+    }
+}
+
+// The kind of tender that a text announces.
+pub fn kind_of(s: &[u8]) -> Kind
+    ensures { λ r. ⌜ r ≡ tenderTypeOf (now (s .entry)) ⌝ }
+{
+    if same(s, b"NC/FD/LA/R/Y/VR/MR") {
+        return Kind::Tender(Side::La, true);
+    }
+    if same(s, b"NC/FD/LA/R/N/VR/MR") {
+        return Kind::Tender(Side::La, false);
+    }
+    if same(s, b"NC/FD/LP/R/Y/VR/MR") {
+        return Kind::Tender(Side::Lp, true);
+    }
+    if same(s, b"NC/FD/LP/R/N/VR/MR") {
+        return Kind::Tender(Side::Lp, false);
+    }
+    Kind::Unknown
+}
+
+// Whether the first four parts of the characteristics are digits, each with a slash after it.
+fn first_formed(s: &[u8]) -> bool
+    requires { ⌜ length (now s) ≡ 100 ⌝ }
+    ensures { λ r. ⌜ r ≡ firstParts (now (s .entry)) ⌝ }
+{
+    all_digits(&s[0..8])
+        & (s[8] == b'/')
+        & all_digits(&s[9..11])
+        & (s[11] == b'/')
+        & all_digits(&s[12..27])
+        & (s[27] == b'/')
+        & all_digits(&s[28..43])
+        & (s[43] == b'/')
+}
+
+// Whether the last four parts are digits, joined by slashes.
+fn last_formed(s: &[u8]) -> bool
+    requires { ⌜ length (now s) ≡ 100 ⌝ }
+    ensures { λ r. ⌜ r ≡ lastParts (now (s .entry)) ⌝ }
+{
+    all_digits(&s[44..59])
+        & (s[59] == b'/')
+        & all_digits(&s[60..75])
+        & (s[75] == b'/')
+        & all_digits(&s[76..91])
+        & (s[91] == b'/')
+        & all_digits(&s[92..100])
+}
+
+// The number in a part of a text, 0 where it has none.
+fn number_at(s: &[u8], from: usize, to: usize) -> u64
+    requires { ⌜ (from ≤ to) × (to ≤ length (now s)) × (to ≤ from + 19) ⌝ }
+    ensures { λ r. ⌜ r ≡ partNumber from to (now (s .entry)) ⌝ }
+{
+    match number(&s[from..to]) {
+        Digits::Number(n) => n,
+        Digits::None => 0,
+    }
+}
+
+// The five amounts, in their order.
+fn amounts_of(s: &[u8]) -> Amounts
+    requires { ⌜ length (now s) ≡ 100 ⌝ }
+    ensures { λ r. ⌜ r ≡ amountsOf (now (s .entry)) ⌝ }
+{
+    let offered = number_at(s, 12, 27);
+    let minimum = number_at(s, 28, 43);
+    let increment = number_at(s, 44, 59);
+    let maximum = number_at(s, 60, 75);
+    let allocation = number_at(s, 76, 91);
+    Amounts {
+        offered: Amount(offered),
+        minimum: Amount(minimum),
+        increment: Amount(increment),
+        maximum: Amount(maximum),
+        allocation: Amount(allocation),
+    }
+}
+
+// Field 6G2: its numbers, or none where it is malformed.
+fn characteristics_of(s: &[u8]) -> Characteristics
+    requires { ⌜ length (now s) ≡ 100 ⌝ }
+    ensures { λ r. ⌜ r ≡ characteristicsOf (now (s .entry)) ⌝ }
+{
+    if first_formed(s) & last_formed(s) {
+        formed_characteristics(s)
+    } else {
+        no_characteristics()
+    }
+}
+
+// The numbers of well-formed characteristics.
+fn formed_characteristics(s: &[u8]) -> Characteristics
+    requires { ⌜ length (now s) ≡ 100 ⌝ }
+    ensures { λ r. ⌜ r ≡ characteristicsFrom true (numbersIn 0 widths (now (s .entry))) ⌝ }
+{
+    let execution = number_at(s, 0, 8);
+    let most = number_at(s, 9, 11);
+    let limit = number_at(s, 92, 100);
+    let a = amounts_of(s);
+    let offered = a.offered;
+    let minimum = a.minimum;
+    let increment = a.increment;
+    let maximum = a.maximum;
+    let allocation = a.allocation;
+    Characteristics {
+        formed: true,
+        execution,
+        most,
+        offered,
+        minimum,
+        increment,
+        maximum,
+        allocation,
+        limit: Rate(limit as u32),
+    }
+}
+
+// Characteristics without numbers.
+fn no_characteristics() -> Characteristics
+    ensures { λ r. ⌜ r ≡ characteristicsFrom false [] ⌝ }
+{
+    Characteristics {
+        formed: false,
+        execution: 0,
+        most: 0,
+        offered: Amount(0),
+        minimum: Amount(0),
+        increment: Amount(0),
+        maximum: Amount(0),
+        allocation: Amount(0),
+        limit: Rate(0),
+    }
+}
+
+// What a readable 6G0 says of sender, recipient, CRO, reference date and reference time.
+fn references_of(m: &[u8]) -> References
+    requires { ⌜ readable layout6G0 (now m) ≡ true ⌝ }
+    ensures { λ r. ⌜ r ≡ referencesOf (now (m .entry)) ⌝ }
+{
+    let sender = number_in(m, 1);
+    let recipient = number_in(m, 2);
+    let cro = number_in(m, 3);
+    let date = number_in(m, 4);
+    let time = number_in(m, 5);
+    References {
+        sender,
+        recipient,
+        cro,
+        date,
+        time,
+    }
+}
+
+// What a readable 6G0 says.
+fn announcement_of(m: &[u8]) -> Announcement
+    requires { ⌜ readable layout6G0 (now m) ≡ true ⌝ }
+    ensures { λ r. ⌜ r ≡ announcementOf (now (m .entry)) ⌝ }
+{
+    let references = references_of(m);
+    let identified = is_identifier(contents(m, 6));
+    let kind = kind_of(contents(m, 7));
+    let characteristics = characteristics_of(contents(m, 8));
+    let spot = number_in(m, 9);
+    let forward = number_in(m, 10);
+    let cutoff = number_in(m, 11);
+    Announcement {
+        references,
+        identified,
+        kind,
+        characteristics,
+        spot,
+        forward,
+        cutoff,
+    }
+}
+
+// Reads a 6G0; what is none says nothing.
+pub fn read(m: &[u8]) -> Reading
+    ensures { λ r. ⌜ (r .readable, r .announcement) ≡ reading (now (m .entry)) ⌝ }
+{
+    if is_6g0(m) {
+        Reading {
+            readable: true,
+            announcement: announcement_of(m),
+        }
+    } else {
+        Reading {
+            readable: false,
+            announcement: no_announcement(),
+        }
+    }
+}
+
+// An announcement that says nothing.
+fn no_announcement() -> Announcement
+    ensures { λ r. ⌜ r ≡ noAnnouncement ⌝ }
+{
+    Announcement {
+        references: References {
+            sender: Digits::None,
+            recipient: Digits::None,
+            cro: Digits::None,
+            date: Digits::None,
+            time: Digits::None,
+        },
+        identified: false,
+        kind: Kind::Unknown,
+        characteristics: no_characteristics(),
+        spot: Digits::None,
+        forward: Digits::None,
+        cutoff: Digits::None,
+    }
+}
+
+// Whether the reference date is not after the execution date, the spot date not before it, and the
+// forward date after the spot date.
+pub fn dates_ordered(reference: u64, execution: u64, spot: u64, forward: u64) -> bool
+    ensures { λ r. ⌜ r ≡ datesOrdered reference execution spot forward ⌝ }
+{
+    !date_before(execution, reference) & !date_before(spot, execution) & date_before(spot, forward)
+}
