@@ -66,12 +66,12 @@ unfolding placeOf
 malformed-is s h = rw h
 
 -- place k of n
-length-places : (n : ℕ) (s : List ℕ) → length (placesIn n s) ≡ n
+pub length-places : (n : ℕ) (s : List ℕ) → length (placesIn n s) ≡ n
 unfolding placesIn
 length-places zero s = refl
 length-places (suc n) s = ap suc (length-places n (drop 24 s))
 
-place-at : (n : ℕ) (s : List ℕ) (k : ℕ) → k < n → getD (placesIn n s) k malformed ≡ placeOf (take 24 (drop (24 * k) s))
+pub place-at : (n : ℕ) (s : List ℕ) (k : ℕ) → k < n → getD (placesIn n s) k malformed ≡ placeOf (take 24 (drop (24 * k) s))
 unfolding placesIn
 place-at zero s k h = absurd (not-suc-le-zero h)
 place-at (suc n) s zero h = refl

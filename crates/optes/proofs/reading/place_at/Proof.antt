@@ -1,0 +1,98 @@
+-- `optes::reading::place_at` meets its contract. Assumes nothing.
+use borrow.Author.Needs.{needs}
+use mathlib.Core.Path.{_≡_, sym, ap, _∙_}
+use mathlib.Core.Bool.{true}
+use mathlib.Core.List.{List}
+use Prim.Native.Nat.{ℕ, _+_, _*_, _-_}
+use native.Mathlib.Omega.{arith}
+use denote.Ref.{now}
+use lib.ListN.{length, take, drop}
+use Rattle.layout.specs.Fields.{readable}
+use Rattle.places.specs.declared.Places.{Places}
+use Rattle.places.specs.Bids.{placeOf, placesIn, placesOf}
+use Rattle.places.proofs.Reading.{length-places}
+use Rattle.envelope.specs.declared.application.Field.the-variants.{Bids}
+use Rattle.envelope.specs.declared.application.Fields.{Fields}
+use Rattle.envelope.specs.Application.{layout6G1, bytesOf, fieldsOf}
+use Rattle.envelope.proofs.Fields6G1.{whole-field, length-field}
+use Rattle.optes.specs.Interface.{placeNumbered, placeAt}
+use Rattle.optes.proofs.Interface.{fields-read, fields-none, place-there, place-past, place-none}
+use Rattle.optes.proofs.reading.place_at.Statement.{statement}
+use Rattle.optes.proofs.reading.place_at.Tie as tie
+
+readable-there : (c : tie.Then1) → readable layout6G1 (now (c .before .before .before .args .m)) ≡ true
+readable-there c = sym (c .before .is-6g1 .ensures) ∙ c .if1 .taken
+
+is-6g1-requires : tie.Need-is-6g1-requires
+is-6g1-requires c κs = search needs
+
+contents-requires : tie.Need-contents-requires
+contents-requires c κs = whole-field (now (c .before .before .before .before .args .m)) (readable-there (c .before)) Bids
+
+mul-at : tie.Need-mul-at
+mul-at c = search needs
+
+add-read-place : tie.Need-add-read-place
+add-read-place c = search needs
+
+sub-read-place : tie.Need-sub-read-place
+sub-read-place c = search needs
+
+part-read-place-start : tie.Need-part-read-place-start
+part-read-place-start c = search needs
+
+part-read-place-end : tie.Need-part-read-place-end
+part-read-place-end c =
+    let l = ap length (c .contents .ensures) ∙ length-field (now (c .before .before .before .before .before .args .m)) (readable-there (c .before .before)) Bids in
+    omega (arith, l)
+
+read-place-requires : tie.Need-read-place-requires
+read-place-requires c κs = search needs
+
+returns : tie.Need-returns
+unfolding placeAt fieldsOf
+returns c =
+    let m = now (c .before .before .before .before .before .before .before .args .m) in
+    let k = c .before .before .before .before .before .before .before .args .place in
+    let n : 24 * k + 24 - 24 * k ≡ 24 = omega arith in
+    let e = c .read-place .ensures ∙ ap (λ (j : ℕ). placeOf (take j (drop (24 * k) (now (c .before .before .contents .result))))) n ∙ ap (λ (s : List ℕ). placeOf (take 24 (drop (24 * k) s))) (c .before .before .contents .ensures) in
+    e ∙ sym (ap (λ (f : Fields). placeNumbered k (f .places)) (fields-read m (readable-there (c .before .before .before .before))) ∙ place-there k (bytesOf Bids m) (c .before .before .before .if2 .taken))
+
+no-place-requires : tie.Need-no-place-requires
+no-place-requires c κs = search needs
+
+returns-2 : tie.Need-returns-2
+unfolding placeAt fieldsOf placesOf
+returns-2 c =
+    let m = now (c .before .before .before .before .before .args .m) in
+    let k = c .before .before .before .before .before .args .place in
+    let l = length-places 10 (bytesOf Bids m) in
+    c .no-place .ensures ∙ place-past k (placesIn 10 (bytesOf Bids m)) (omega arith) ∙ sym (ap (λ (f : Fields). placeNumbered k (f .places)) (fields-read m (readable-there (c .before .before))))
+
+no-place-requires-2 : tie.Need-no-place-requires-2
+no-place-requires-2 c κs = search needs
+
+returns-3 : tie.Need-returns-3
+unfolding placeAt
+returns-3 c =
+    let m = now (c .before .before .before .before .args .m) in
+    let k = c .before .before .before .before .args .place in
+    c .no-place2 .ensures ∙ place-none k ∙ sym (ap (λ (f : Fields). placeNumbered k (f .places)) (fields-none m (sym (c .before .before .is-6g1 .ensures) ∙ c .before .if1 .left)))
+
+pub place-at-spec : {M : Type 1} → statement M
+place-at-spec =
+    tie.close
+    (tie.spec
+    is-6g1-requires
+    contents-requires
+    mul-at
+    add-read-place
+    sub-read-place
+    part-read-place-start
+    part-read-place-end
+    read-place-requires
+    returns
+    no-place-requires
+    returns-2
+    no-place-requires-2
+    returns-3)

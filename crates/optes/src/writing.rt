@@ -1,0 +1,105 @@
+// A 6G1 written for a host: 26 numbers, three texts and the space.
+use envelope::application::Application;
+use envelope::application::WriteAnswer;
+use envelope::application::write;
+use places::Amount;
+use places::Rate;
+ghost use mathlib.Core.Path.{_≡_};
+ghost use mathlib.Core.List.{[], _∷_};
+ghost use Rattle.envelope.specs.Application.{write, writeRefusal};
+ghost use Rattle.optes.specs.Interface.{answerNumber, answered, applicationOf, heldRate};
+
+// A rate as far as 32 bits hold it. The widest that they hold is as much too wide for its field.
+fn rate(n: u64) -> Rate
+    ensures { λ r. ⌜ r ≡ heldRate n ⌝ }
+{
+    if n < 4294967296 {
+        Rate(n as u32)
+    } else {
+        Rate(4294967295)
+    }
+}
+
+// The number of an answer, 0 where nothing was refused.
+fn number(a: WriteAnswer) -> u32
+    ensures { λ r. ⌜ r ≡ answerNumber (writeRefusal a) ⌝ }
+{
+    match a {
+        WriteAnswer::Written => 0,
+        WriteAnswer::Unfit => 17,
+        WriteAnswer::NoRoom => 18,
+    }
+}
+
+// Writes a 6G1 at the start of the space: 0, or 17 or 18 with the space as it was.
+#[no_mangle]
+pub extern "C" fn optes_6g1_write(
+    sender: u64,
+    recipient: u64,
+    cro: u64,
+    date: u64,
+    time: u64,
+    check: u64,
+    rate0: u64,
+    rate1: u64,
+    rate2: u64,
+    rate3: u64,
+    rate4: u64,
+    rate5: u64,
+    rate6: u64,
+    rate7: u64,
+    rate8: u64,
+    rate9: u64,
+    amount0: u64,
+    amount1: u64,
+    amount2: u64,
+    amount3: u64,
+    amount4: u64,
+    amount5: u64,
+    amount6: u64,
+    amount7: u64,
+    amount8: u64,
+    amount9: u64,
+    kind: &[u8],
+    identifier: &[u8],
+    name: &[u8],
+    space: &mut [u8],
+) -> u32
+    ensures { λ r. ⌜ (r, now (space .exit)) ≡ answered (write (applicationOf sender recipient cro date time check (rate0 ∷ rate1 ∷ rate2 ∷ rate3 ∷ rate4 ∷ rate5 ∷ rate6 ∷ rate7 ∷ rate8 ∷ rate9 ∷ []) (amount0 ∷ amount1 ∷ amount2 ∷ amount3 ∷ amount4 ∷ amount5 ∷ amount6 ∷ amount7 ∷ amount8 ∷ amount9 ∷ [])) (now (kind .entry)) (now (identifier .entry)) (now (name .entry)) (now (space .entry))) ⌝ }
+{
+    let rates = [
+        rate(rate0),
+        rate(rate1),
+        rate(rate2),
+        rate(rate3),
+        rate(rate4),
+        rate(rate5),
+        rate(rate6),
+        rate(rate7),
+        rate(rate8),
+        rate(rate9),
+    ];
+    let amounts = [
+        Amount(amount0),
+        Amount(amount1),
+        Amount(amount2),
+        Amount(amount3),
+        Amount(amount4),
+        Amount(amount5),
+        Amount(amount6),
+        Amount(amount7),
+        Amount(amount8),
+        Amount(amount9),
+    ];
+    let a = Application {
+        sender,
+        recipient,
+        cro,
+        date,
+        time,
+        check,
+        rates,
+        amounts,
+    };
+    number(write(a, kind, identifier, name, space))
+}
