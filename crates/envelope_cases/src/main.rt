@@ -2,7 +2,6 @@
 // stdout, which was written from document 01.
 mod message;
 mod numbers;
-mod print;
 mod reading;
 mod times;
 mod writing;

@@ -1,6 +1,5 @@
 // Which digit fields and places have numbers.
 use crate::message;
-use crate::print;
 use digits::Digits;
 use envelope::application::Fields;
 use envelope::application::read;
@@ -52,18 +51,18 @@ fn known(f: Fields) -> u64 {
 fn altered(k: usize, at: usize, b: u8) {
     let m = message::with(at, b);
     let f = read(&m).fields;
-    print::digits(field(f, k));
-    print::number(known(f));
+    printing::digits(field(f, k));
+    printing::number(known(f));
 }
 
 // Digit field k with another byte, at its first and at its last position.
 fn digit_field(k: usize, first: usize, last: usize, b: u8) {
-    print::text(b"digit field");
-    print::number(k as u64);
-    print::number(b as u64);
+    printing::text(b"digit field");
+    printing::number(k as u64);
+    printing::number(b as u64);
     altered(k, first, b);
     altered(k, last, b);
-    print::end();
+    printing::end();
 }
 
 // Each digit field with each byte that is no digit.
@@ -82,11 +81,11 @@ pub fn fields() {
 // The numbers of one place, where it is well formed.
 fn numbers_of(formed: bool, rate: Rate, amount: Amount) {
     if formed {
-        print::number(rate.0 as u64);
-        print::text(b"/");
-        print::number(amount.0);
+        printing::number(rate.0 as u64);
+        printing::text(b"/");
+        printing::number(amount.0);
     } else {
-        print::text(b" none");
+        printing::text(b" none");
     }
 }
 
@@ -104,7 +103,7 @@ fn place(at: usize, b: u8) {
         numbers_of(formed[k], rate, amount);
         k += 1;
     }
-    print::end();
+    printing::end();
 }
 
 // The places as they are; one with a blank for its slash, one with a blank in its rate, one with a

@@ -1,6 +1,5 @@
 // What is readable as a 6G1 and what is not.
 use crate::message;
-use crate::print;
 use envelope::application::Field;
 use envelope::application::bytes;
 use envelope::application::read;
@@ -15,24 +14,24 @@ fn numbers(m: &[u8]) {
     let date = f.date;
     let time = f.time;
     let check = f.check;
-    print::text(b"valid");
-    print::number(message::refusal(m));
-    print::digits(sender);
-    print::digits(recipient);
-    print::digits(cro);
-    print::digits(date);
-    print::digits(time);
-    print::digits(check);
-    print::end();
+    printing::text(b"valid");
+    printing::number(message::refusal(m));
+    printing::digits(sender);
+    printing::digits(recipient);
+    printing::digits(cro);
+    printing::digits(date);
+    printing::digits(time);
+    printing::digits(check);
+    printing::end();
 }
 
 // The bytes of a message's texts.
 fn texts(m: &[u8]) {
-    print::text(bytes(m, Field::MessageType));
-    print::text(bytes(m, Field::Identifier));
-    print::text(bytes(m, Field::Bids));
-    print::text(bytes(m, Field::Name));
-    print::end();
+    printing::text(bytes(m, Field::MessageType));
+    printing::text(bytes(m, Field::Identifier));
+    printing::text(bytes(m, Field::Bids));
+    printing::text(bytes(m, Field::Name));
+    printing::end();
 }
 
 // The valid message: its refusal, its digit fields and the bytes of its texts.
@@ -59,10 +58,10 @@ fn raised(at: usize) -> u64 {
 
 // One tag or length byte altered.
 fn head_byte(at: usize) {
-    print::text(b"head byte");
-    print::number(at as u64);
-    print::number(raised(at));
-    print::end();
+    printing::text(b"head byte");
+    printing::number(at as u64);
+    printing::number(raised(at));
+    printing::end();
 }
 
 // The tag byte of a field, which stands at an index, and its two length bytes altered in turn.
@@ -98,9 +97,9 @@ pub fn contents() {
         }
         at += 1;
     }
-    print::text(b"altered and readable");
-    print::number(readable);
-    print::end();
+    printing::text(b"altered and readable");
+    printing::number(readable);
+    printing::end();
 }
 
 // Every length from 0 to 400, the message and then zeros: the readable ones, and how many are refused.
@@ -119,9 +118,9 @@ pub fn lengths() {
 fn readable_length(m: &[u8]) -> bool {
     let readable = message::refusal(m) == 0;
     if readable {
-        print::text(b"readable length");
-        print::number(m.len() as u64);
-        print::end();
+        printing::text(b"readable length");
+        printing::number(m.len() as u64);
+        printing::end();
     }
     readable
 }
@@ -136,7 +135,7 @@ fn lengths_of(long: &[u8]) {
         }
         n += 1;
     }
-    print::text(b"refused lengths");
-    print::number(refused);
-    print::end();
+    printing::text(b"refused lengths");
+    printing::number(refused);
+    printing::end();
 }

@@ -1,11 +1,10 @@
 // Dates, times and their order.
-use crate::print;
 
 fn date(n: u64) {
-    print::text(b"date");
-    print::number(n);
-    print::yes(calendar::valid_date(n));
-    print::end();
+    printing::text(b"date");
+    printing::number(n);
+    printing::yes(calendar::valid_date(n));
+    printing::end();
 }
 
 // Leap days, the ends of months, the years' bounds, and numbers of more digits than a date has.
@@ -30,10 +29,10 @@ pub fn dates() {
 }
 
 fn hour(n: u64) {
-    print::text(b"time");
-    print::number(n);
-    print::yes(calendar::valid_time(n));
-    print::end();
+    printing::text(b"time");
+    printing::number(n);
+    printing::yes(calendar::valid_time(n));
+    printing::end();
 }
 
 pub fn hours() {
@@ -47,10 +46,10 @@ pub fn hours() {
 }
 
 fn later(date: u64, time: u64, day: u64, second: u64) {
-    print::number(date);
-    print::number(time);
-    print::yes(calendar::moment_later(date, time, day, second));
-    print::end();
+    printing::number(date);
+    printing::number(time);
+    printing::yes(calendar::moment_later(date, time, day, second));
+    printing::end();
 }
 
 // Moments against 110000 on 12 March 2012.

@@ -1,6 +1,5 @@
 // Which applications are written, and what a refused writing leaves.
 use crate::message;
-use crate::print;
 use envelope::application::Application;
 use envelope::application::write;
 use places::Amount;
@@ -91,13 +90,13 @@ fn number_refusal(a: Application) -> u64 {
 // Number k at its widest and one wider.
 fn number(k: usize) {
     let n = limit(k);
-    print::text(b"number");
-    print::number(k as u64);
+    printing::text(b"number");
+    printing::number(k as u64);
     if 0 < n {
-        print::number(number_refusal(changed(k, n - 1)));
+        printing::number(number_refusal(changed(k, n - 1)));
     }
-    print::number(number_refusal(changed(k, n)));
-    print::end();
+    printing::number(number_refusal(changed(k, n)));
+    printing::end();
 }
 
 // Each number at its widest and one wider.
@@ -111,7 +110,7 @@ pub fn numbers() {
 
 // The refusal of the message with these texts.
 fn written_with(kind: &[u8], identifier: &[u8], name: &[u8]) {
-    print::number(refusal(message::application(), kind, identifier, name));
+    printing::number(refusal(message::application(), kind, identifier, name));
 }
 
 // The refusal of the message with another type.
@@ -131,33 +130,33 @@ fn with_name(name: &[u8]) {
 
 // Each text one short and one long.
 pub fn texts() {
-    print::text(b"texts");
+    printing::text(b"texts");
     with_kind(b"6G");
     with_kind(b"6G1 ");
     with_identifier(b"T/2012/001");
     with_identifier(b"T/2012/00001");
     with_name(b"CONTACT \x00 \xff en");
     with_name(b"CONTACT \x00 \xff end ");
-    print::end();
+    printing::end();
 }
 
 // Malformed identifiers, and a well formed one.
 pub fn identifiers() {
-    print::text(b"identifiers");
+    printing::text(b"identifiers");
     with_identifier(b"t/2012/0001");
     with_identifier(b"T-2012/0001");
     with_identifier(b"T/ 012/0001");
     with_identifier(b"T/2012 0001");
     with_identifier(b"T/2012/000:");
     with_identifier(b"T/0000/9999");
-    print::end();
+    printing::end();
 }
 
 // Any three bytes for a type.
 pub fn kinds() {
-    print::text(b"type");
+    printing::text(b"type");
     with_kind(b"\x00\xff ");
-    print::end();
+    printing::end();
 }
 
 // The refusal of the message with another type, written into a space.
@@ -175,12 +174,12 @@ fn write_into(space: &mut [u8], kind: &[u8]) -> u64 {
 // What a writing left: its refusal, whether the message stands in the space, and how many bytes
 // hold the pattern still.
 fn outcome(n: usize, refusal: u64, space: [u8; 341]) {
-    print::text(b"space");
-    print::number(n as u64);
-    print::number(refusal);
-    print::yes(check::same(&space[..339], &message::bytes()));
-    print::number(unchanged(&space));
-    print::end();
+    printing::text(b"space");
+    printing::number(n as u64);
+    printing::number(refusal);
+    printing::yes(check::same(&space[..339], &message::bytes()));
+    printing::number(unchanged(&space));
+    printing::end();
 }
 
 // Writes into the first n bytes of a space of 341 that holds a pattern.

@@ -1,4 +1,4 @@
-// Printing on standard output.
+// What the programs with cases print, on standard output.
 use digits::Digits;
 
 pub fn text(s: &[u8]) {
