@@ -1,0 +1,12 @@
+// The cases, by what they concern. Each runs with the buffers of one guard.
+#ifndef HOST_CASES_H
+#define HOST_CASES_H
+
+#include "guarded.h"
+
+void reading_cases(const struct buffers *b);
+void number_cases(const struct buffers *b);
+void writing_cases(const struct buffers *b);
+void application_cases(const struct buffers *b);
+
+#endif

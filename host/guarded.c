@@ -1,0 +1,85 @@
+// Pages and processes are not in C11 itself.
+#define _DEFAULT_SOURCE
+#include "guarded.h"
+
+#include <assert.h>
+#include <signal.h>
+#include <string.h>
+#include <sys/mman.h>
+#include <sys/wait.h>
+#include <unistd.h>
+
+#include "check.h"
+
+// The exit status of a program that its guard stopped.
+#define STOPPED 3
+
+static void guarded_open(struct guarded *g, enum guard guard)
+{
+    g->guard = guard;
+    g->size = (size_t)sysconf(_SC_PAGESIZE);
+    void *map = mmap(NULL, 3 * g->size, PROT_READ | PROT_WRITE, MAP_PRIVATE | MAP_ANONYMOUS, -1, 0);
+    CHECK(map != MAP_FAILED);
+    g->page = (uint8_t *)map + g->size;
+    CHECK(mprotect(g->page - g->size, g->size, PROT_NONE) == 0);
+    CHECK(mprotect(g->page + g->size, g->size, PROT_NONE) == 0);
+}
+
+static void guarded_close(struct guarded *g)
+{
+    CHECK(munmap(g->page - g->size, 3 * g->size) == 0);
+}
+
+void buffers_open(struct buffers *b, enum guard guard)
+{
+    guarded_open(&b->message, guard);
+    guarded_open(&b->type, guard);
+    guarded_open(&b->identifier, guard);
+    guarded_open(&b->name, guard);
+    guarded_open(&b->space, guard);
+    guarded_open(&b->application, guard);
+}
+
+void buffers_close(struct buffers *b)
+{
+    guarded_close(&b->message);
+    guarded_close(&b->type);
+    guarded_close(&b->identifier);
+    guarded_close(&b->name);
+    guarded_close(&b->space);
+    guarded_close(&b->application);
+}
+
+uint8_t *guarded_bytes(const struct guarded *g, size_t n)
+{
+    assert(n <= g->size);
+    return g->guard == GUARD_AFTER ? g->page + g->size - n : g->page;
+}
+
+uint8_t *guarded_copy(const struct guarded *g, const void *from, size_t n)
+{
+    uint8_t *to = guarded_bytes(g, n);
+    memcpy(to, from, n);
+    return to;
+}
+
+static void stopped(int signal_number)
+{
+    (void)signal_number;
+    _exit(STOPPED);
+}
+
+int guarded_stops(const struct guarded *g)
+{
+    volatile uint8_t *bytes = guarded_bytes(g, 1);
+    pid_t child = fork();
+    CHECK(child >= 0);
+    if (child == 0) {
+        signal(SIGSEGV, stopped);
+        bytes[g->guard == GUARD_AFTER ? 1 : -1] = 0;
+        _exit(0);
+    }
+    int status = 0;
+    CHECK(waitpid(child, &status, 0) == child);
+    return WIFEXITED(status) && WEXITSTATUS(status) == STOPPED;
+}

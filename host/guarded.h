@@ -1,0 +1,41 @@
+// Buffers that stand directly against a page that may not be touched, so that one byte too far stops
+// the program.
+#ifndef HOST_GUARDED_H
+#define HOST_GUARDED_H
+
+#include <stddef.h>
+#include <stdint.h>
+
+// Where the page that may not be touched stands.
+enum guard { GUARD_AFTER, GUARD_BEFORE };
+
+// One page between two that may not be touched.
+struct guarded {
+    enum guard guard;
+    uint8_t *page;
+    size_t size;
+};
+
+// The buffers of one run, each on a page of its own.
+struct buffers {
+    struct guarded message;
+    struct guarded type;
+    struct guarded identifier;
+    struct guarded name;
+    struct guarded space;
+    struct guarded application;
+};
+
+void buffers_open(struct buffers *b, enum guard guard);
+void buffers_close(struct buffers *b);
+
+// n bytes against the guard.
+uint8_t *guarded_bytes(const struct guarded *g, size_t n);
+
+// A copy of n bytes against the guard.
+uint8_t *guarded_copy(const struct guarded *g, const void *from, size_t n);
+
+// 1 where a program that touches the byte beyond the buffer is stopped, else 0.
+int guarded_stops(const struct guarded *g);
+
+#endif

@@ -1,0 +1,81 @@
+// A host in C++: one application written, read back and written again.
+#include "optes.h"
+
+#include <array>
+#include <cstdio>
+#include <cstring>
+
+namespace {
+
+using Message = std::array<uint8_t, OPTES_6G1_BYTES>;
+
+optes_application application()
+{
+    optes_application a{};
+    a.sender = 90002;
+    a.recipient = 1000;
+    a.cro = 17;
+    a.date = 12032012;
+    a.time = 102900;
+    a.check = 12345;
+    a.places[0].rate = 150000;
+    a.places[0].amount = 60000;
+    std::memcpy(a.type, "6G1", sizeof a.type);
+    std::memcpy(a.identifier, "T/2012/0001", sizeof a.identifier);
+    std::memcpy(a.name, "Contact name   ", sizeof a.name);
+    return a;
+}
+
+// Whether the six numbers and the ten places were read, and are those of the application.
+bool same_numbers(const optes_application &a)
+{
+    bool same = a.has_sender == 1 && a.sender == 90002 && a.has_recipient == 1 && a.recipient == 1000
+        && a.has_cro == 1 && a.cro == 17 && a.has_date == 1 && a.date == 12032012
+        && a.has_time == 1 && a.time == 102900 && a.has_check == 1 && a.check == 12345;
+    for (int k = 0; k < OPTES_6G1_PLACES; k++)
+        same = same && a.places[k].well_formed == 1 && a.places[k].rate == (k == 0 ? 150000u : 0u)
+            && a.places[k].amount == (k == 0 ? 60000u : 0u);
+    return same;
+}
+
+bool same_texts(const optes_application &a)
+{
+    return std::memcmp(a.type, "6G1", sizeof a.type) == 0
+        && std::memcmp(a.identifier, "T/2012/0001", sizeof a.identifier) == 0
+        && std::memcmp(a.name, "Contact name   ", sizeof a.name) == 0;
+}
+
+bool return_trip()
+{
+    const optes_application sent = application();
+    optes_application received{};
+    Message first{}, second{};
+    return optes_application_write(&sent, first.data(), first.size()) == OPTES_OK
+        && optes_application_read(&received, first.data(), first.size()) == OPTES_OK
+        && same_numbers(received) && same_texts(received)
+        && optes_application_write(&received, second.data(), second.size()) == OPTES_OK
+        && first == second;
+}
+
+// A short message, a rate of more than 32 bits and a short space.
+bool refusals()
+{
+    optes_application a = application();
+    Message m{};
+    bool refused = optes_application_write(&a, m.data(), m.size() - 1) == OPTES_NO_ROOM
+        && optes_application_read(&a, m.data(), m.size() - 1) == OPTES_UNREADABLE;
+    a.places[0].rate = UINT64_C(4294967296) + 150000;
+    return refused && optes_application_write(&a, m.data(), m.size()) == OPTES_UNFIT && m == Message{};
+}
+
+} // namespace
+
+int main()
+{
+    if (!return_trip() || !refusals()) {
+        std::fputs("host_cpp: the application does not read back, or a refusal is missing\n", stderr);
+        return 1;
+    }
+    std::puts("host_cpp: the application reads back");
+    return 0;
+}

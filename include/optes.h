@@ -1,0 +1,177 @@
+// The OPTES 6G1 application for a host in C or C++: read from bytes, written from numbers and texts.
+//
+// Threads: the library has no state, so every call may run at the same time as any other. While a
+// call runs, nobody else writes the bytes that it reads or touches the space that it writes.
+// Failure: a call that is refused returns the number of the refusal, and a refused write alters
+// nothing. There is no other failure.
+// Pointers: each pointer is followed by its length in bytes. It is not null, also where the length
+// is zero. The space of a write overlaps none of the texts.
+#ifndef OPTES_H
+#define OPTES_H
+
+#include <stddef.h>
+#include <stdint.h>
+#include <string.h>
+
+// What a call returns: done, or the number of its refusal.
+#define OPTES_OK 0
+#define OPTES_UNREADABLE 12 // The message is not readable as a 6G1.
+#define OPTES_UNFIT 17      // A number is too wide, a text not of its length, or the identifier malformed.
+#define OPTES_NO_ROOM 18    // The space is under OPTES_6G1_BYTES.
+
+// The numbers of the fields, in their order, and how many they are.
+#define OPTES_6G1_TYPE 0
+#define OPTES_6G1_SENDER 1
+#define OPTES_6G1_RECIPIENT 2
+#define OPTES_6G1_CRO 3
+#define OPTES_6G1_DATE 4
+#define OPTES_6G1_TIME 5
+#define OPTES_6G1_CHECK 6
+#define OPTES_6G1_IDENTIFIER 7
+#define OPTES_6G1_BIDS 8
+#define OPTES_6G1_NAME 9
+#define OPTES_6G1_FIELDS 10
+
+// The whole message, and the ten places of the bids, which are numbered from 0.
+#define OPTES_6G1_BYTES 339
+#define OPTES_6G1_PLACES 10
+#define OPTES_6G1_PLACE_BYTES 24
+#define OPTES_6G1_BIDS_BYTES 240
+
+// The widths of the texts.
+#define OPTES_6G1_TYPE_BYTES 3
+#define OPTES_6G1_IDENTIFIER_BYTES 11
+#define OPTES_6G1_NAME_BYTES 15
+
+// The widths of the digit fields, and of the two numbers of a place.
+#define OPTES_6G1_SENDER_DIGITS 5
+#define OPTES_6G1_RECIPIENT_DIGITS 5
+#define OPTES_6G1_CRO_DIGITS 11
+#define OPTES_6G1_DATE_DIGITS 8
+#define OPTES_6G1_TIME_DIGITS 6
+#define OPTES_6G1_CHECK_DIGITS 5
+#define OPTES_6G1_RATE_DIGITS 8
+#define OPTES_6G1_AMOUNT_DIGITS 15
+
+#ifdef __cplusplus
+extern "C" {
+#endif
+
+// OPTES_OK where the n bytes at m are readable as a 6G1, else OPTES_UNREADABLE.
+uint32_t optes_6g1_read(const uint8_t *m, size_t n);
+
+// 1 where the message is readable and has a field of this number, else 0.
+uint32_t optes_6g1_has_field(const uint8_t *m, size_t n, uint32_t field);
+
+// The index in m of the first byte that the field holds, or 0 where there is no such field.
+size_t optes_6g1_start(const uint8_t *m, size_t n, uint32_t field);
+
+// How many bytes the field holds, or 0 where there is no such field.
+size_t optes_6g1_length(const uint8_t *m, size_t n, uint32_t field);
+
+// 1 where the field is a digit field, SENDER to CHECK, and holds digits only, else 0.
+uint32_t optes_6g1_has_number(const uint8_t *m, size_t n, uint32_t field);
+
+// The number of a digit field, or 0 where it has none.
+uint64_t optes_6g1_number(const uint8_t *m, size_t n, uint32_t field);
+
+// 1 where the place of this number is well formed, else 0.
+uint32_t optes_6g1_has_place(const uint8_t *m, size_t n, uint32_t place);
+
+// The rate of a place in hundred-thousandths of a percent, or 0 where the place is not well formed.
+uint32_t optes_6g1_rate(const uint8_t *m, size_t n, uint32_t place);
+
+// The amount of a place in eurocents, or 0 where the place is not well formed.
+uint64_t optes_6g1_amount(const uint8_t *m, size_t n, uint32_t place);
+
+// OPTES_OK with a 6G1 in the first OPTES_6G1_BYTES of the space and the bytes past them as they were,
+// else OPTES_UNFIT or OPTES_NO_ROOM; a rate has 64 bits, so that a wide one is refused and never cut.
+uint32_t optes_6g1_write(
+    uint64_t sender, uint64_t recipient, uint64_t cro, uint64_t date, uint64_t time, uint64_t check,
+    uint64_t rate0, uint64_t rate1, uint64_t rate2, uint64_t rate3, uint64_t rate4,
+    uint64_t rate5, uint64_t rate6, uint64_t rate7, uint64_t rate8, uint64_t rate9,
+    uint64_t amount0, uint64_t amount1, uint64_t amount2, uint64_t amount3, uint64_t amount4,
+    uint64_t amount5, uint64_t amount6, uint64_t amount7, uint64_t amount8, uint64_t amount9,
+    const uint8_t *type, size_t type_length,
+    const uint8_t *identifier, size_t identifier_length,
+    const uint8_t *name, size_t name_length,
+    uint8_t *space, size_t n);
+
+// A place of the bids: a rate in hundred-thousandths of a percent and an amount in eurocents.
+struct optes_place {
+    uint64_t rate;
+    uint64_t amount;
+    uint32_t well_formed; // 1 where the two numbers were read, else 0, and then they are 0.
+};
+
+// The numbers and texts of a 6G1.
+struct optes_application {
+    uint64_t sender;
+    uint64_t recipient;
+    uint64_t cro;
+    uint64_t date; // ddmmyyyy
+    uint64_t time; // hhmmss
+    uint64_t check;
+    uint32_t has_sender; // 1 where the number was read, else 0, and then it is 0. So the next five.
+    uint32_t has_recipient;
+    uint32_t has_cro;
+    uint32_t has_date;
+    uint32_t has_time;
+    uint32_t has_check;
+    struct optes_place places[OPTES_6G1_PLACES];
+    uint8_t type[OPTES_6G1_TYPE_BYTES];
+    uint8_t identifier[OPTES_6G1_IDENTIFIER_BYTES];
+    uint8_t name[OPTES_6G1_NAME_BYTES];
+};
+
+// Reads the n bytes at m: OPTES_OK, or OPTES_UNREADABLE with the application as it was.
+static inline uint32_t optes_application_read(struct optes_application *a, const uint8_t *m, size_t n)
+{
+    uint32_t refusal = optes_6g1_read(m, n);
+    if (refusal != OPTES_OK)
+        return refusal;
+    a->sender = optes_6g1_number(m, n, OPTES_6G1_SENDER);
+    a->recipient = optes_6g1_number(m, n, OPTES_6G1_RECIPIENT);
+    a->cro = optes_6g1_number(m, n, OPTES_6G1_CRO);
+    a->date = optes_6g1_number(m, n, OPTES_6G1_DATE);
+    a->time = optes_6g1_number(m, n, OPTES_6G1_TIME);
+    a->check = optes_6g1_number(m, n, OPTES_6G1_CHECK);
+    a->has_sender = optes_6g1_has_number(m, n, OPTES_6G1_SENDER);
+    a->has_recipient = optes_6g1_has_number(m, n, OPTES_6G1_RECIPIENT);
+    a->has_cro = optes_6g1_has_number(m, n, OPTES_6G1_CRO);
+    a->has_date = optes_6g1_has_number(m, n, OPTES_6G1_DATE);
+    a->has_time = optes_6g1_has_number(m, n, OPTES_6G1_TIME);
+    a->has_check = optes_6g1_has_number(m, n, OPTES_6G1_CHECK);
+    for (uint32_t k = 0; k < OPTES_6G1_PLACES; k++) {
+        a->places[k].rate = optes_6g1_rate(m, n, k);
+        a->places[k].amount = optes_6g1_amount(m, n, k);
+        a->places[k].well_formed = optes_6g1_has_place(m, n, k);
+    }
+    memcpy(a->type, m + optes_6g1_start(m, n, OPTES_6G1_TYPE), OPTES_6G1_TYPE_BYTES);
+    memcpy(a->identifier, m + optes_6g1_start(m, n, OPTES_6G1_IDENTIFIER), OPTES_6G1_IDENTIFIER_BYTES);
+    memcpy(a->name, m + optes_6g1_start(m, n, OPTES_6G1_NAME), OPTES_6G1_NAME_BYTES);
+    return OPTES_OK;
+}
+
+// Writes the application to the n bytes of the space, as optes_6g1_write does. The flags are not
+// looked at: a number or place without one is written as the numbers that stand there.
+static inline uint32_t optes_application_write(const struct optes_application *a, uint8_t *space, size_t n)
+{
+    const struct optes_place *p = a->places;
+    return optes_6g1_write(
+        a->sender, a->recipient, a->cro, a->date, a->time, a->check,
+        p[0].rate, p[1].rate, p[2].rate, p[3].rate, p[4].rate,
+        p[5].rate, p[6].rate, p[7].rate, p[8].rate, p[9].rate,
+        p[0].amount, p[1].amount, p[2].amount, p[3].amount, p[4].amount,
+        p[5].amount, p[6].amount, p[7].amount, p[8].amount, p[9].amount,
+        a->type, OPTES_6G1_TYPE_BYTES,
+        a->identifier, OPTES_6G1_IDENTIFIER_BYTES,
+        a->name, OPTES_6G1_NAME_BYTES,
+        space, n);
+}
+
+#ifdef __cplusplus
+}
+#endif
+
+#endif
