@@ -101,7 +101,7 @@ digits-join [] t = refl
 digits-join (b ∷ s) t = ap (λ (x : Bool). isDigit b && x) (digits-join s t) ∙ sym (and-assoc (isDigit b) (allDigits s) (allDigits t))
 
 -- a number of w digits is below the power of ten
-below-length : (s : List ℕ) → allDigits s ≡ true → numberOf s < 10 ^ length s
+pub below-length : (s : List ℕ) → allDigits s ≡ true → numberOf s < 10 ^ length s
 unfolding numberFrom
 below-length [] h = lit< tt
 below-length (b ∷ s) h =

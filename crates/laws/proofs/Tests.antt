@@ -22,3 +22,12 @@ same-test true true f g = refl
 same-test true false f g = sym (f refl)
 same-test false true f g = g refl
 same-test false false f g = refl
+
+-- what a disjunction that fails says
+pub or-left : (a b : Bool) → a || b ≡ false → a ≡ false
+or-left true b h = h
+or-left false b h = refl
+
+pub or-right : (a b : Bool) → a || b ≡ false → b ≡ false
+or-right true b h = absurd (false≢true (sym h))
+or-right false b h = h

@@ -1,0 +1,298 @@
+-- Demand 3, from what the book holds and from the sum of the awards. Assumes nothing.
+use mathlib.Core.Path.{_≡_, refl, sym, _∙_, ap, ap₂, subst}
+use mathlib.Core.Bool.{Bool, true, false, cond, not, _&&_, _||_, false≢true, and-false}
+use mathlib.Core.List.{List, [], _∷_, _++_, map, List·Memᴰ, List·Memᴰ·head, List·Memᴰ·tail}
+use mathlib.Core.Option.{Option, none, some}
+use Prim.Native.Nat.{ℕ, zero, suc, _+_, _-_, _*_, _^_, _≤_, _<_, min}
+use native.Mathlib.Nat.{pow-le-pow-right}
+use native.Mathlib.Omega.{arith}
+use lib.Dec.{ltb, eqb, lit<}
+use lib.ListN.{length, take, drop, getD, replicate, length-take}
+use borrow.Author.Tests.{ltb-false, lt-ltb, le-ltb}
+use Rattle.calendar.specs.Calendar.{validDate, validTime, later}
+use Rattle.laws.proofs.Tests.{and-left, and-right, or-left, or-right}
+use Rattle.digits.specs.Decimal.{allDigits, numberOf}
+use Rattle.digits.proofs.Reading.{below-length}
+use Rattle.layout.specs.Fields.{readable}
+use Rattle.places.specs.declared.Place.{Place}
+use Rattle.places.specs.Bids.{slash, wellFormed, malformed, isPlace, placeOf, placesIn}
+use Rattle.envelope.specs.declared.application.Field.the-variants.{Bids}
+use Rattle.envelope.specs.Refusals.{firstHolding, unlessRefused}
+use Rattle.envelope.specs.Application.{layout6G1, bytesOf, unreadable}
+use Rattle.rules.specs.Allotment.{Bid, noBid, filled, Offer, isIn, keep, total, awards, sum, totalIn}
+use Rattle.rules.specs.Opening.{Terms, any, notAnnouncement, otherOrigin, malformedAnnouncement, unknownType, impossibleNumbers, datesDisordered, badCodes, rising, openingRefused, termsOf, offerOf}
+use Rattle.rules.specs.Receiving.{Reception, placesOf, bidOf, bidsOf, Error, when, errors, isEmpty, isSound, Submission, submission, Entry, newBook, isAfter, isFrom, takes, hold, returnedErrors}
+use Rattle.rules.specs.Calls.{State, Open, Closed, Tender, inState, openTender, isRevoked, isOver, clockInvalid, spaceShort, beforeCutOff, isOpen, isAnnounced, bidsInBook, bidsExceed, receivingRefused, answerWith, answerUnless, receive, closingRefused, close, allottingRefused, places640, Allotted, allotment, allot}
+use Rattle.rules.specs.ArrivalOrder.{receiveAll, EnoughSpace, NoConflict, Rearranged, PastCutOff, afterReceptions, afterClosing, latest, bidsOfLatest, finalBids, allFinalBids, finalBook, Settled, ArrivalOrder, AnyLatest}
+use Rattle.rules.proofs.Kept.{mem-keep}
+use Rattle.rules.proofs.Sum.{awards-sum}
+use Rattle.rules.proofs.Rearranging.{mem-map, map-mem, rearranged-mem, rearranged-back, rearranged-map}
+use Rattle.rules.proofs.Book.{Agreeing, holdAllIn, IsLatest, is-latest, finalEntry, book-final, book-rearranged, final-any}
+
+-- a message that no entry takes leaves the book
+none-taken : (s : Submission) (b : List Entry) → any (takes s) b ≡ false → map (hold s) b ≡ b
+unfolding any hold
+none-taken s [] h = refl
+none-taken s (e ∷ b) h =
+    ap₂ (λ (x : Entry) (xs : List Entry). x ∷ xs) (rw (or-left (takes s e) (any (takes s) b) h)) (none-taken s b (or-right (takes s e) (any (takes s) b) h))
+
+unsound-takes : (s : Submission) (e : Entry) → s .sound ≡ false → takes s e ≡ false
+unfolding takes isFrom
+unsound-takes s e h = ap (λ (x : Bool). x && eqb (s .code) (e .code) && isAfter (s .time) (e .held)) h
+
+unsound-taken : (s : Submission) (b : List Entry) → s .sound ≡ false → any (takes s) b ≡ false
+unfolding any
+unsound-taken s [] h = refl
+unsound-taken s (e ∷ b) h = ap₂ (λ (x y : Bool). x || y) (unsound-takes s e h) (unsound-taken s b h)
+
+unsound : (s : Submission) (b : List Entry) → s .sound ≡ false → map (hold s) b ≡ b
+unsound s b h = none-taken s b (unsound-taken s b h)
+
+-- one reception at an open tender, with space enough: the book holds the message, if it is one to hold
+abbrev openWith : Terms → List Entry → Tender
+openWith t b = record { terms = t; state = Open; book = b }
+
+none-left : isEmpty {A = Error} [] ≡ true
+unfolding isEmpty
+none-left = refl
+
+some-left : (e : Error) (es : List Error) → isEmpty (e ∷ es) ≡ false
+unfolding isEmpty
+some-left e es = refl
+
+-- the errors with which a message is returned
+returned-empty : (t : Terms) (b : List Entry) (r : Reception) (x y : Bool) → isEmpty (errors t r) ≡ x → any (takes (submission t r)) b ≡ y → isEmpty (returnedErrors t b r) ≡ (x && y)
+unfolding returnedErrors when
+returned-empty t b r true true e f = rw (e, f) none-left
+returned-empty t b r true false e f = rw (e, f) (some-left _ [])
+returned-empty t b r false y e f = ap isEmpty (rw e refl) ∙ e
+
+-- the tender after an answer
+answer-tender : (es : List Error) (t : Terms) (b : List Entry) (r : Reception) → answerWith es (openWith t b) r .1 ≡ cond (isEmpty es) (openWith t (map (hold (submission t r)) b)) (openWith t b)
+unfolding answerWith isEmpty
+answer-tender [] t b r = refl
+answer-tender (e ∷ es) t b r = refl
+
+-- one reception at an open tender, with space enough: the book holds the message, if it is one to hold
+module _ (t : Terms) (b : List Entry) (r : Reception) where
+  not-sound : submission t r .sound ≡ false → openWith t b ≡ openWith t (map (hold (submission t r)) b)
+  not-sound h = ap (openWith t) (sym (unsound (submission t r) b h))
+
+  sound-is : (x y z : Bool) → readable layout6G1 (r .message) ≡ x → validDate (r .date) && validTime (r .time) ≡ y → isEmpty (errors t r) ≡ z → submission t r .sound ≡ (x && y && z)
+  unfolding submission isSound
+  sound-is x y z p q s = ap₂ (λ (u v : Bool). u && v) (ap₂ (λ (u v : Bool). u && v) p q) s
+
+  answered : (x y : Bool) → isEmpty (errors t r) ≡ x → any (takes (submission t r)) b ≡ y → readable layout6G1 (r .message) ≡ true → validDate (r .date) && validTime (r .time) ≡ true
+      → answerWith (returnedErrors t b r) (openWith t b) r .1 ≡ openWith t (map (hold (submission t r)) b)
+  answered true true e f p q = answer-tender (returnedErrors t b r) t b r ∙ rw (returned-empty t b r true true e f)
+  answered true false e f p q = answer-tender (returnedErrors t b r) t b r ∙ rw (returned-empty t b r true false e f) (ap (openWith t) (sym (none-taken (submission t r) b f)))
+  answered false y e f p q = answer-tender (returnedErrors t b r) t b r ∙ rw (returned-empty t b r false y e f) (not-sound (sound-is true true false p q e))
+
+  unless-refused : (x y : Bool) → readable layout6G1 (r .message) ≡ x → validDate (r .date) && validTime (r .time) ≡ y → 418 ≤ length (r .space)
+      → receive (openWith t b) r .1 ≡ openWith t (map (hold (submission t r)) b)
+  unfolding receive receivingRefused answerUnless firstHolding isRevoked isOver clockInvalid spaceShort
+  unless-refused x false p q l = rw q (not-sound (sound-is x false (isEmpty (errors t r)) p q refl ∙ ap (λ (u : Bool). u && isEmpty (errors t r)) (and-false x)))
+  unless-refused false true p q l = rw (q, le-ltb (length (r .space)) 418 l, p) (not-sound (sound-is false true (isEmpty (errors t r)) p q refl))
+  unless-refused true true p q l = rw (q, le-ltb (length (r .space)) 418 l, p) (answered (isEmpty (errors t r)) (any (takes (submission t r)) b) refl refl p q)
+
+  pub received-tender : 418 ≤ length (r .space) → receive (openWith t b) r .1 ≡ openWith t (map (hold (submission t r)) b)
+  received-tender l = unless-refused (readable layout6G1 (r .message)) (validDate (r .date) && validTime (r .time)) refl refl l
+
+-- a list of receptions: the book holds their messages one after the other
+received-all : (t : Terms) (rs : List Reception) (b : List Entry) → EnoughSpace rs → receiveAll (openWith t b) rs ≡ openWith t (holdAllIn (map (submission t) rs) b)
+unfolding receiveAll holdAllIn
+received-all t [] b h = refl
+received-all t (r ∷ rs) b h =
+    ap (λ (x : Tender). receiveAll x rs) (received-tender t b r (h r (List·Memᴰ·head refl))) ∙ received-all t rs (map (hold (submission t r)) b) (λ s k. h s (List·Memᴰ·tail k))
+
+-- the bids of the book are the final bids
+bids-final : (codes : List ℕ) (ss : List Submission) → bidsInBook (map (finalEntry ss) codes) ≡ allFinalBids codes ss
+unfolding bidsInBook allFinalBids finalEntry
+bids-final [] ss = refl
+bids-final (c ∷ codes) ss = ap (λ (l : List Bid). finalBids c ss ++ l) (bids-final codes ss)
+
+bids-after : (t : Terms) (rs : List Reception) → bidsInBook (holdAllIn (map (submission t) rs) (newBook (t .codes))) ≡ finalBook t rs
+bids-after t rs = ap bidsInBook (book-final (t .codes) (map (submission t) rs)) ∙ bids-final (t .codes) (map (submission t) rs)
+
+-- all bids of a message are below 10^16 together, so that those of 64 codes are below condition 16's bound
+amount-below : (s : List ℕ) → placeOf s .amount .0 ≤ 999999999999999
+unfolding placeOf
+amount-below s = go (isPlace s) refl
+  where
+    go : (x : Bool) → isPlace s ≡ x → cond (isPlace s) (wellFormed (numberOf (take 8 s)) (numberOf (take 15 (drop 9 s)))) malformed .amount .0 ≤ 999999999999999
+    go false e = rw e (omega arith)
+    go true e =
+        let d : allDigits (take 15 (drop 9 s)) ≡ true = unfold isPlace in and-right (eqb (getD s 8 0) slash && allDigits (take 8 s)) (allDigits (take 15 (drop 9 s))) e in
+        let h = below-length (take 15 (drop 9 s)) d in
+        let l : length (take 15 (drop 9 s)) ≤ 15 = rw length-take (omega arith) in
+        let p : 10 ^ length (take 15 (drop 9 s)) ≤ 10 ^ 15 = pow-le-pow-right {n = 10} (lit< tt) {i = length (take 15 (drop 9 s))} {j = 15} l in
+        rw e (omega arith)
+
+places-below : (n : ℕ) (s : List ℕ) → total (map bidOf (placesIn n s)) ≤ 999999999999999 * n
+unfolding total placesIn
+places-below zero s = omega arith
+places-below (suc n) s = let h = amount-below (take 24 s) in let k = places-below n (drop 24 s) in omega arith
+
+message-below : (m : List ℕ) → total (bidsOf m) ≤ 9999999999999990
+unfolding bidsOf placesOf
+message-below m = let h = places-below 10 (bytesOf Bids m) in omega arith
+
+submission-below : (t : Terms) (r : Reception) → total (submission t r .bids) ≤ 9999999999999990
+unfolding submission
+submission-below t r = message-below (r .message)
+
+total-append : (xs ys : List Bid) → total (xs ++ ys) ≡ total xs + total ys
+unfolding total
+total-append [] ys = omega arith
+total-append (x ∷ xs) ys = omega (arith, total-append xs ys)
+
+module _ (t : Terms) (rs : List Reception) where
+  final-below : (c : ℕ) → total (finalBids c (map (submission t) rs)) ≤ 9999999999999990
+  unfolding finalBids bidsOfLatest total
+  final-below c = go (latest (keep (isFrom c) (map (submission t) rs))) (is-latest (keep (isFrom c) (map (submission t) rs)))
+    where
+      go : (l : Option Submission) → IsLatest (keep (isFrom c) (map (submission t) rs)) l → total (bidsOfLatest l) ≤ 9999999999999990
+      go none h = omega arith
+      go (some s) h = heard (mem-map (submission t) rs (mem-keep (isFrom c) (map (submission t) rs) (h .0) .0))
+        where
+          heard : (r : Reception) × List·Memᴰ r rs × (s ≡ submission t r) → total (s .bids) ≤ 9999999999999990
+          heard w = subst (λ (x : Submission). total (x .bids) ≤ 9999999999999990) (sym (w .2)) (submission-below t (w .0))
+
+  finals-below : (codes : List ℕ) → total (allFinalBids codes (map (submission t) rs)) ≤ 9999999999999990 * length codes
+  unfolding allFinalBids total
+  finals-below [] = omega arith
+  finals-below (c ∷ codes) = omega (arith, total-append (finalBids c (map (submission t) rs)) (allFinalBids codes (map (submission t) rs)), final-below c, finals-below codes)
+
+-- what an accepted opening says: no condition holds, so that there are at most 64 codes
+next-condition : (n : ℕ) (b : Bool) (rest : List (ℕ × Bool)) → firstHolding ((n, b) ∷ rest) ≡ none → (b ≡ false) × (firstHolding rest ≡ none)
+unfolding firstHolding
+next-condition n false rest h = (refl, h)
+next-condition n true rest h = absurd (let z : _≡_ {A = ℕ} 0 1 = cc in omega arith)
+
+module _ (m codes : List ℕ) (h : openingRefused m codes ≡ none) where
+  codes-good : badCodes codes ≡ false
+  unfolding openingRefused
+  codes-good =
+      let c1 = next-condition 1 (notAnnouncement m) _ h in
+      let c2 = next-condition 2 (otherOrigin m) _ (c1 .1) in
+      let c3 = next-condition 3 (malformedAnnouncement m) _ (c2 .1) in
+      let c4 = next-condition 4 (unknownType m) _ (c3 .1) in
+      let c5 = next-condition 5 (impossibleNumbers m) _ (c4 .1) in
+      let c6 = next-condition 6 (datesDisordered m) _ (c5 .1) in
+      next-condition 7 (badCodes codes) _ (c6 .1) .0
+
+  few-codes : length codes ≤ 64
+  unfolding badCodes
+  few-codes =
+      ltb-false 64 (length codes)
+      (or-right (eqb (length codes) 0) (ltb 64 (length codes))
+      (or-left (eqb (length codes) 0 || ltb 64 (length codes)) (not (rising codes))
+      (or-left (eqb (length codes) 0 || ltb 64 (length codes) || not (rising codes)) (any (ltb 99999) codes) codes-good)))
+
+  opened : openTender m codes .1 ≡ openWith (termsOf m codes) (newBook codes)
+  unfolding openTender
+  opened = rw h
+
+-- closing past the cut-off, and allotting then
+module _ (t : Terms) (b : List Entry) (date time : ℕ) (past : PastCutOff t date time) where
+  closing-accepted : closingRefused (openWith t b) date time ≡ none
+  unfolding closingRefused firstHolding isRevoked isOver clockInvalid beforeCutOff
+  closing-accepted = rw (past .0, past .1, past .2)
+
+  closed : close (openWith t b) date time .1 ≡ inState Closed (openWith t b)
+  unfolding close
+  closed = rw closing-accepted
+
+  allotting-accepted : total (bidsInBook b) ≤ 999999999999999999 → allottingRefused (inState Closed (openWith t b)) ≡ none
+  unfolding allottingRefused firstHolding isRevoked isOpen isAnnounced bidsExceed
+  allotting-accepted l = rw (le-ltb 999999999999999999 (total (bidsInBook b)) l)
+
+-- the same receptions in another order
+module _ (t : Terms) (rs : List Reception) (agree : NoConflict t rs) where
+  agreeing : Agreeing (map (submission t) rs)
+  agreeing m n hm hn = go (mem-map (submission t) rs hm) (mem-map (submission t) rs hn)
+    where
+      go : (r : Reception) × List·Memᴰ r rs × (m ≡ submission t r) → (s : Reception) × List·Memᴰ s rs × (n ≡ submission t s)
+          → m .sound ≡ true → n .sound ≡ true → m .code ≡ n .code → m .time ≡ n .time → m .bids ≡ n .bids
+      go v w = rw (v .2, w .2) (agree (v .0) (w .0) (v .1) (w .1))
+
+  same-final : (rearranged : List Reception) → Rearranged rs rearranged → finalBook t rs ≡ finalBook t rearranged
+  same-final rearranged p =
+      sym (bids-after t rs)
+      ∙ ap bidsInBook (book-rearranged (t .codes) (map (submission t) rs) (map (submission t) rearranged) agreeing (rearranged-map (submission t) p))
+      ∙ bids-after t rearranged
+
+-- what holds after the receptions
+module _ (m codes : List ℕ) (h : openingRefused m codes ≡ none) (rs : List Reception) (room : EnoughSpace rs) (date time : ℕ) (past : PastCutOff (termsOf m codes) date time) where
+  book : List Entry
+  book = holdAllIn (map (submission (termsOf m codes)) rs) (newBook codes)
+
+  after-is : afterReceptions m codes rs ≡ openWith (termsOf m codes) book
+  unfolding book
+  after-is = ap (λ (x : Tender). receiveAll x rs) (opened m codes h) ∙ received-all (termsOf m codes) rs (newBook codes) room
+
+  bids-are : bidsInBook book ≡ finalBook (termsOf m codes) rs
+  unfolding book termsOf
+  bids-are = bids-after (termsOf m codes) rs
+
+  few-bids : total (bidsInBook book) ≤ 999999999999999999
+  unfolding termsOf
+  few-bids =
+      let l = few-codes m codes h in
+      let k = finals-below (termsOf m codes) rs codes in
+      rw bids-are (omega arith)
+
+  closed-is : afterClosing m codes rs date time ≡ inState Closed (openWith (termsOf m codes) book)
+  closed-is = ap (λ (x : Tender). close x date time .1) after-is ∙ closed (termsOf m codes) book date time past
+
+  accepted : allottingRefused (inState Closed (openWith (termsOf m codes) book)) ≡ none
+  accepted = allotting-accepted (termsOf m codes) book date time past few-bids
+
+  settled : Settled m codes rs date time (finalBook (termsOf m codes) rs)
+  unfolding close allot
+  settled =
+      record {
+        closes = ap (λ (x : Tender). closingRefused x date time) after-is ∙ closing-accepted (termsOf m codes) book date time past;
+        allots = ap allottingRefused closed-is ∙ accepted;
+        awarded = ap (λ (x : Tender). allot x .2) closed-is ∙ rw (accepted, bids-are);
+      }
+
+pub any-latest : AnyLatest
+any-latest t c rs agree r k f last =
+    final-any c (map (submission t) rs) (agreeing t rs agree) (submission t r) (map-mem (submission t) rs k) f
+    (λ n hn hf. bound n (mem-map (submission t) rs hn) hf)
+  where
+    bound : (n : Submission) → (s : Reception) × List·Memᴰ s rs × (n ≡ submission t s) → isFrom c n ≡ true → n .time ≤ submission t r .time
+    bound n w hf = subst (λ (x : Submission). x .time ≤ submission t r .time) (sym (w .2)) (last (w .0) (w .1) (subst (λ (x : Submission). isFrom c x ≡ true) (w .2) hf))
+
+-- the empty places past the codes count for nothing
+empty-out : (o : Offer) (n : ℕ) → total (keep (isIn o) (replicate n noBid)) ≡ 0
+unfolding keep isIn filled total
+empty-out o zero = refl
+empty-out o (suc n) = empty-out o n
+
+in-append : (o : Offer) (xs ys : List Bid) → total (keep (isIn o) (xs ++ ys)) ≡ total (keep (isIn o) xs) + total (keep (isIn o) ys)
+unfolding keep total
+in-append o [] ys = omega arith
+in-append o (x ∷ xs) ys = go (isIn o x) refl (in-append o xs ys)
+  where
+    go : (t : Bool) → isIn o x ≡ t → total (keep (isIn o) (xs ++ ys)) ≡ total (keep (isIn o) xs) + total (keep (isIn o) ys)
+        → total (cond (isIn o x) (x ∷ keep (isIn o) (xs ++ ys)) (keep (isIn o) (xs ++ ys))) ≡ total (cond (isIn o x) (x ∷ keep (isIn o) xs) (keep (isIn o) xs)) + total (keep (isIn o) ys)
+    go true e ih = rw e (omega arith)
+    go false e ih = rw e ih
+
+padded-in : (o : Offer) (bs : List Bid) → totalIn o (places640 bs) ≡ totalIn o bs
+unfolding totalIn places640
+padded-in o bs = in-append o bs (replicate (640 - length bs) noBid) ∙ omega (arith, empty-out o (640 - length bs))
+
+pub arrival-order : ArrivalOrder
+arrival-order m codes h rs rearranged room agree p date time date₂ time₂ past past₂ =
+    let t = termsOf m codes in
+    let a = settled m codes h rs room date time past in
+    let b = settled m codes h rearranged (λ r k. room r (rearranged-mem (rearranged-back p) k)) date₂ time₂ past₂ in
+    let c : Settled m codes rearranged date₂ time₂ (finalBook t rs) = subst (Settled m codes rearranged date₂ time₂) (sym (same-final t rs agree rearranged p)) b in (
+      a,
+      c,
+      c .awarded ∙ sym (a .awarded),
+      ap (λ (x : Allotted). sum (x .awards)) (a .awarded) ∙ unfold allotment in (awards-sum (offerOf t) (places640 (finalBook t rs)) ∙ ap (min (t .offered)) (padded-in (offerOf t) (finalBook t rs))),
+    )

@@ -1,0 +1,11 @@
+pub mod Kept
+pub mod Rates
+pub mod Best
+pub mod Division
+pub mod Sum
+pub mod Walk
+pub mod Bound
+pub mod Rearranging
+pub mod Book
+pub mod ArrivalOrder
+pub mod Marked

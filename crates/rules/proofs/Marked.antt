@@ -1,0 +1,19 @@
+-- The marked cases hold: antt computes every row. Assumes nothing.
+use Rattle.texts.specs.Texts.{sameText}
+use Rattle.layout.specs.Fields.{field, oneOf, starts, readable, offset, content, encoded}
+use Rattle.digits.specs.Decimal.{allDigits, numberFrom, digitsOf, digits}
+use Rattle.calendar.specs.Calendar.{daysIn}
+use Rattle.places.specs.Bids.{isPlace, placeOf, placesIn, placeText, placesText}
+use Rattle.envelope.specs.Refusals.{firstHolding}
+use Rattle.envelope.specs.Announcement.{layout6G0, lookUp, tenderTypeOf, joined, numbersIn, characteristicsOf, referencesOf, announcementOf}
+use Rattle.envelope.specs.Application.{layout6G1, fieldsOf, isIdentifier, written}
+use Rattle.rules.specs.Allotment.{filled, betterRate, isIn, isBetter, isEqual, keep, total, totalBetter, totalEqual, lengthIn, binaryLength, firstDigits, divisionAt, division, share, shares, centsLeft, cent, award, awardsFrom, awards, reaches, bestOf, bestRate, marginalRate}
+use Rattle.rules.specs.Opening.{any, notAnnouncement, otherOrigin, wellFormed, malformedAnnouncement, unknownType, impossible, impossibleNumbers, datesDisordered, rising, badCodes, openingRefused, termsOf}
+use Rattle.rules.specs.Receiving.{placesOf, bidsOf, when, senderErrors, dateErrors, gap, fineRate, smallBid, unevenBid, overMaximum, bidErrors, placeErrors, errors, isEmpty, isSound, submission, newEntry, newBook, isAfter, isFrom, takes, hold, returnedErrors}
+use Rattle.rules.specs.Calls.{openTender, isRevoked, isOver, clockInvalid, spaceShort, bidsInBook, receivingRefused, answerWith, answerUnless, receive, places640, allotment}
+use Rattle.rules.specs.ArrivalOrder.{receiveAll}
+use Rattle.rules.specs.Marked.{announcement, terms, ten, message, reception, codesOf, found, worked, tenderAfter, answerNumber, answerAfter, shared, marginal, workedAwards, allHold, table, MarkedCases}
+
+pub marked-cases : MarkedCases
+unfolding sameText field oneOf starts readable offset content encoded allDigits numberFrom digitsOf digits daysIn isPlace placeOf placesIn placeText placesText firstHolding layout6G0 lookUp tenderTypeOf joined numbersIn characteristicsOf referencesOf announcementOf layout6G1 fieldsOf isIdentifier written filled betterRate isIn isBetter isEqual keep total totalBetter totalEqual lengthIn binaryLength firstDigits divisionAt division share shares centsLeft cent award awardsFrom awards reaches bestOf bestRate marginalRate any notAnnouncement otherOrigin wellFormed malformedAnnouncement unknownType impossible impossibleNumbers datesDisordered rising badCodes openingRefused termsOf placesOf bidsOf when senderErrors dateErrors gap fineRate smallBid unevenBid overMaximum bidErrors placeErrors errors isEmpty isSound submission newEntry newBook isAfter isFrom takes hold returnedErrors openTender isRevoked isOver clockInvalid spaceShort bidsInBook receivingRefused answerWith answerUnless receive places640 allotment receiveAll announcement terms ten message reception codesOf found worked tenderAfter answerNumber answerAfter shared marginal workedAwards allHold table
+marked-cases = tt

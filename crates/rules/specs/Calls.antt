@@ -1,0 +1,156 @@
+-- The calls on a tender: what each refuses, answers and leaves (document 01, 'What a call refuses'). Assumes nothing.
+use mathlib.Core.Bool.{Bool, true, false, cond, not, _&&_, _||_}
+use mathlib.Core.List.{List, [], _∷_, _++_, map}
+use mathlib.Core.Option.{Option, none, some}
+use Prim.Native.Nat.{ℕ, _-_}
+use lib.Dec.{ltb}
+use lib.ListN.{length, drop, replicate}
+use Rattle.calendar.specs.Calendar.{validDate, validTime, later}
+use Rattle.envelope.specs.Refusals.{firstHolding, unlessRefused}
+use Rattle.envelope.specs.Application.{unreadable}
+use Rattle.rules.specs.Allotment.{Bid, noBid, total, awards, marginalRate}
+use Rattle.rules.specs.Opening.{Terms, openingRefused, termsOf, noTerms, offerOf}
+use Rattle.rules.specs.Receiving.{Reception, Error, Entry, submission, newBook, hold, returnedErrors}
+use Rattle.rules.specs.Replies.{confirmation, returnedMessage}
+
+-- 'open, closed, announced or revoked'
+pub data State : Type 0 where
+  Open Closed Announced Revoked : State
+
+-- 'An opened tender takes an event and becomes the next tender'
+pub record Tender : Type 0 where
+  pub terms : Terms
+  pub state : State
+  pub book : List Entry
+
+abbrev pub inState : State → Tender → Tender
+inState s t = record { terms = t .terms; state = s; book = t .book }
+
+-- what a refused opening gives back: no terms, no book, and every later call on it is refused with 8
+abbrev pub noTender : Tender
+noTender = record { terms = noTerms; state = Revoked; book = [] }
+
+unfoldable pub openTender : List ℕ → List ℕ → Option ℕ × Tender
+openTender m codes = (
+  openingRefused m codes,
+  unlessRefused (openingRefused m codes) noTender (record { terms = termsOf m codes; state = Open; book = newBook codes }),
+)
+
+-- '8. The tender is revoked.'
+unfoldable pub isRevoked : Tender → Bool
+isRevoked t = elim (t .state) [ Open ↦ false | Closed ↦ false | Announced ↦ false | Revoked ↦ true ]
+
+-- '9. It is closed or announced.'
+unfoldable pub isOver : Tender → Bool
+isOver t = elim (t .state) [ Open ↦ false | Closed ↦ true | Announced ↦ true | Revoked ↦ false ]
+
+-- '10. The clock's date or time is invalid.'
+unfoldable pub clockInvalid : ℕ → ℕ → Bool
+clockInvalid date time = not (validDate date && validTime time)
+
+-- '11. The reply space is under 418 bytes.'
+unfoldable pub spaceShort : List ℕ → Bool
+spaceShort space = ltb (length space) 418
+
+-- '13. The cut-off has not passed.'
+unfoldable pub beforeCutOff : Terms → ℕ → ℕ → Bool
+beforeCutOff t date time = not (later date time (t .execution) (t .cutOff))
+
+-- '14. The tender is open.'
+unfoldable pub isOpen : Tender → Bool
+isOpen t = elim (t .state) [ Open ↦ true | Closed ↦ false | Announced ↦ false | Revoked ↦ false ]
+
+-- '15. It is announced.'
+unfoldable pub isAnnounced : Tender → Bool
+isAnnounced t = elim (t .state) [ Open ↦ false | Closed ↦ false | Announced ↦ true | Revoked ↦ false ]
+
+-- the bids of the book in book order: 'rising code, then place'
+unfoldable pub bidsInBook : List Entry → List Bid
+bidsInBook [] = []
+bidsInBook (e ∷ es) = e .bids ++ bidsInBook es
+
+-- '16. The bids in the book exceed 999,999,999,999,999,999 eurocents.'
+unfoldable pub bidsExceed : Tender → Bool
+bidsExceed t = ltb 999999999999999999 (total (bidsInBook (t .book)))
+
+-- 'receiving 8 to 12'
+unfoldable pub receivingRefused : Tender → Reception → Option ℕ
+receivingRefused t r =
+    firstHolding
+    ((8, isRevoked t)
+    ∷ (9, isOver t)
+    ∷ (10, clockInvalid (r .date) (r .time))
+    ∷ (11, spaceShort (r .space))
+    ∷ (12, unreadable (r .message))
+    ∷ [])
+
+-- what a reception is answered, each with the length of its reply
+pub data Answer : Type 0 where
+  confirmed : ℕ → Answer
+  returned : List Error → ℕ → Answer
+  refused : ℕ → Answer
+
+-- a reply at the start of the space; 'Bytes past a reply .. stay'
+abbrev pub inSpace : List ℕ → List ℕ → List ℕ
+inSpace reply space = reply ++ drop (length reply) space
+
+-- 'An accepted message gets a confirmation; one with errors gets RE01 and changes nothing in the tender.'
+unfoldable pub answerWith : List Error → Tender → Reception → Answer × Tender × List ℕ
+answerWith [] t r = (
+  confirmed (length (confirmation (t .terms) r)),
+  record { terms = t .terms; state = t .state; book = map (hold (submission (t .terms) r)) (t .book) },
+  inSpace (confirmation (t .terms) r) (r .space),
+)
+answerWith (e ∷ es) t r = (
+  returned (e ∷ es) (length (returnedMessage (r .message) (e ∷ es))),
+  t,
+  inSpace (returnedMessage (r .message) (e ∷ es)) (r .space),
+)
+
+unfoldable pub answerUnless : Option ℕ → Tender → Reception → Answer × Tender × List ℕ
+answerUnless (some n) t r = (refused n, t, r .space)
+answerUnless none t r = answerWith (returnedErrors (t .terms) (t .book) r) t r
+
+unfoldable pub receive : Tender → Reception → Answer × Tender × List ℕ
+receive t r = answerUnless (receivingRefused t r) t r
+
+-- 'closing 8, 9, 10, 13'
+unfoldable pub closingRefused : Tender → ℕ → ℕ → Option ℕ
+closingRefused t date time =
+    firstHolding ((8, isRevoked t) ∷ (9, isOver t) ∷ (10, clockInvalid date time) ∷ (13, beforeCutOff (t .terms) date time) ∷ [])
+
+unfoldable pub close : Tender → ℕ → ℕ → Option ℕ × Tender
+close t date time = (closingRefused t date time, unlessRefused (closingRefused t date time) t (inState Closed t))
+
+-- 'allotting 8, 14, 15, 16'
+unfoldable pub allottingRefused : Tender → Option ℕ
+allottingRefused t = firstHolding ((8, isRevoked t) ∷ (14, isOpen t) ∷ (15, isAnnounced t) ∷ (16, bidsExceed t) ∷ [])
+
+-- 'the awards, 640 places in book order (places of absent codes zero)'
+unfoldable pub places640 : List Bid → List Bid
+places640 bs = bs ++ replicate (640 - length bs) noBid
+
+-- what allotting gives: awards and marginal rate, zeros and none where it is refused
+pub record Allotted : Type 0 where
+  pub awards : List ℕ
+  pub marginal : Option ℕ
+
+abbrev pub notAllotted : Allotted
+notAllotted = record { awards = replicate 640 0; marginal = none }
+
+unfoldable pub allotment : Terms → List Bid → Allotted
+allotment t bs = record { awards = awards (offerOf t) (places640 bs); marginal = marginalRate (offerOf t) (places640 bs) }
+
+unfoldable pub allot : Tender → Option ℕ × Tender × Allotted
+allot t = (
+  allottingRefused t,
+  unlessRefused (allottingRefused t) t (inState Announced t),
+  unlessRefused (allottingRefused t) notAllotted (allotment (t .terms) (bidsInBook (t .book))),
+)
+
+-- 'revoking 8, 15'
+unfoldable pub revokingRefused : Tender → Option ℕ
+revokingRefused t = firstHolding ((8, isRevoked t) ∷ (15, isAnnounced t) ∷ [])
+
+unfoldable pub revoke : Tender → Option ℕ × Tender
+revoke t = (revokingRefused t, unlessRefused (revokingRefused t) t (inState Revoked t))

@@ -1,0 +1,203 @@
+-- Document 01's marked cases M1 to M10, and further ones that pin what demand 3 leaves open, as one table. Assumes nothing.
+use mathlib.Core.Bool.{Bool, true, false, not, _&&_}
+use mathlib.Core.List.{List, [], _∷_, _++_, map}
+use mathlib.Core.Option.{Option, none, some}
+use Prim.Native.Nat.{ℕ}
+use lib.Dec.{eqb}
+use lib.ListN.{length, replicate, getD, take}
+use Rattle.calendar.specs.Calendar.{validDate}
+use Rattle.layout.specs.Fields.{encoded}
+use Rattle.places.specs.declared.Rate.{Rate}
+use Rattle.places.specs.declared.Amount.{Amount}
+use Rattle.texts.specs.Texts.{sameText, ascii}
+use Rattle.envelope.specs.declared.announcement.Side.{Side}
+use Rattle.envelope.specs.declared.announcement.Side.the-variants.{La, Lp}
+use Rattle.envelope.specs.Announcement.{layout6G0}
+use Rattle.envelope.specs.Application.{written}
+use Rattle.rules.specs.Allotment.{Bid, Offer, isIn, division, awards, marginalRate}
+use Rattle.rules.specs.Opening.{Terms, openingRefused, termsOf, offerOf}
+use Rattle.rules.specs.Receiving.{Reception, Error, errors, tenZeros}
+use Rattle.rules.specs.Calls.{Tender, Answer, confirmed, returned, refused, openTender, receive, bidsInBook, Allotted, allotment}
+use Rattle.rules.specs.ArrivalOrder.{receiveAll}
+
+-- 'Tender LP of 12032012, most bids 3, amount offered 100000, minimum and increment 10000, no maximum, minimum allocation 0, limit 00100000,
+-- cut-off 110000, codes 90001 to 90003'
+unfoldable pub announcement : List ℕ
+announcement =
+    encoded layout6G0
+    (ascii "6G0"
+    ∷ ascii "01000"
+    ∷ ascii "90001"
+    ∷ ascii "00000000001"
+    ∷ ascii "12032012"
+    ∷ ascii "093000"
+    ∷ ascii "T/2012/0001"
+    ∷ ascii "NC/FD/LP/R/Y/VR/MR"
+    ∷ ascii "12032012/03/000000000100000/000000000010000/000000000010000/000000000000000/000000000000000/00100000"
+    ∷ ascii "14032012"
+    ∷ ascii "15032012"
+    ∷ ascii "110000"
+    ∷ [])
+
+abbrev pub admitted : List ℕ
+admitted = 90001 ∷ 90002 ∷ 90003 ∷ []
+
+unfoldable pub terms : Terms
+terms = termsOf announcement admitted
+
+-- bids from the first place on, and zeros in the places after them
+abbrev pub Pairs : Type 0
+Pairs = List (ℕ × ℕ)
+
+abbrev pub rateOf : ℕ × ℕ → Rate
+rateOf p = record { 0 = p .0 }
+
+abbrev pub amountOf : ℕ × ℕ → Amount
+amountOf p = record { 0 = p .1 }
+
+unfoldable pub ten : Pairs → Pairs
+ten ps = take 10 (ps ++ replicate 10 (0, 0))
+
+-- a 6G1 to this tender, from a code at a reference time
+unfoldable pub message : ℕ → ℕ → Pairs → List ℕ
+message code time ps =
+    written
+    (record { sender = code; recipient = 1000; cro = 1; date = 12032012; time = time; check = 0; rates = map rateOf (ten ps); amounts = map amountOf (ten ps) })
+    (ascii "6G1")
+    (ascii "T/2012/0001")
+    (ascii "CONTACT NAME   ")
+
+-- its reception on the execution date
+unfoldable pub reception : ℕ → List ℕ → Reception
+reception time m = record { message = m; date = 12032012; time = time; space = replicate 418 0 }
+
+-- the codes of the errors of a message
+abbrev pub code : Error → ℕ
+code e = e .1
+
+unfoldable pub codesOf : Reception → List ℕ
+codesOf r = map code (errors terms r)
+
+-- the errors of one application by 90001 received at 103000
+unfoldable pub found : Pairs → List ℕ
+found ps = codesOf (reception 103000 (message 90001 102900 ps))
+
+-- 'four receptions with reference times 102900, 103100, 103400 and 102000'
+unfoldable pub worked : List Reception
+worked =
+    reception 103000 (message 90002 102900 ((150000, 60000) ∷ []))
+    ∷ reception 103101 (message 90001 103100 ((120000, 50000) ∷ []))
+    ∷ reception 103500 (message 90003 103400 ((120000, 40000) ∷ []))
+    ∷ reception 104000 (message 90002 102000 ((150000, 70000) ∷ []))
+    ∷ []
+
+unfoldable pub tenderAfter : List Reception → Tender
+tenderAfter rs = receiveAll (openTender announcement admitted .1) rs
+
+-- what a reception is answered after others, as a number: 0 confirmed, else the first error's code, or the refusal
+unfoldable pub answerNumber : Answer → ℕ
+answerNumber (confirmed n) = 0
+answerNumber (returned es n) = getD (map code es) 0 0
+answerNumber (refused n) = n
+
+unfoldable pub answerAfter : List Reception → Reception → ℕ
+answerAfter rs r = answerNumber (receive (tenderAfter rs) r .0)
+
+unfoldable pub lengthAfter : List Reception → Reception → ℕ
+lengthAfter rs r = length (receive (tenderAfter rs) r .2)
+
+-- amounts and rates in the book, place by place
+abbrev pub rate : Bid → ℕ
+rate b = b .rate
+
+abbrev pub amount : Bid → ℕ
+amount b = b .amount
+
+-- bids by themselves
+abbrev pub bid : ℕ × ℕ → Bid
+bid p = record { rate = p .0; amount = p .1 }
+
+unfoldable pub shared : Side → ℕ → ℕ → Pairs → List ℕ
+shared side limit offered ps = awards (record { side = side; limit = limit; offered = offered }) (map bid ps)
+
+unfoldable pub marginal : Side → ℕ → ℕ → Pairs → Option ℕ
+marginal side limit offered ps = marginalRate (record { side = side; limit = limit; offered = offered }) (map bid ps)
+
+-- an option as a list, to be compared
+abbrev pub listOf : Option ℕ → List ℕ
+listOf none = []
+listOf (some n) = n ∷ []
+
+-- a row: the mark, or 0 where document 01 has none, and whether the definitions give what it says
+pub record Row : Type 0 where
+  pub mark : ℕ
+  pub holds : Bool
+
+abbrev pub row : ℕ → List ℕ → List ℕ → Row
+row mark given expected = record { mark = mark; holds = sameText given expected }
+
+unfoldable pub allHold : List Row → Bool
+allHold [] = true
+allHold (r ∷ rs) = r .holds && allHold rs
+
+-- the cents of the worked example: places 1, 11 and 21
+unfoldable pub workedAwards : List ℕ
+workedAwards = awards (offerOf terms) (bidsInBook (tenderAfter worked .book))
+
+unfoldable pub table : List Row
+table =
+    -- the announcement opens a tender
+    row 0 (listOf (openingRefused announcement admitted)) []
+    -- M1 received 110000 in time, 110001 gives 301
+    ∷ row 1 (codesOf (reception 110000 (message 90001 102900 ((120000, 10000) ∷ [])))) []
+    ∷ row 1 (codesOf (reception 110001 (message 90001 102900 ((120000, 10000) ∷ [])))) (301 ∷ [])
+    -- M2 amount 20000 passes, 25000 gives 906, 9999 gives 905 alone
+    ∷ row 2 (found ((120000, 20000) ∷ [])) []
+    ∷ row 2 (found ((120000, 25000) ∷ [])) (906 ∷ [])
+    ∷ row 2 (found ((120000, 9999) ∷ [])) (905 ∷ [])
+    -- M3 rate 00120500 gives 904
+    ∷ row 3 (found ((120500, 10000) ∷ [])) (904 ∷ [])
+    -- M4 three bids pass, four give 903
+    ∷ row 4 (found ((120000, 10000) ∷ (130000, 10000) ∷ (140000, 10000) ∷ [])) []
+    ∷ row 4 (found ((120000, 10000) ∷ (130000, 10000) ∷ (140000, 10000) ∷ (150000, 10000) ∷ [])) (903 ∷ [])
+    -- M5 rate 00100000 is in, 00099000 out
+    ∷ record { mark = 5; holds = isIn (offerOf terms) (bid (100000, 10000)) }
+    ∷ record { mark = 5; holds = not (isIn (offerOf terms) (bid (99000, 10000))) }
+    -- M6 29022012 is a date, 29022011 not
+    ∷ record { mark = 6; holds = validDate 29022012 }
+    ∷ record { mark = 6; holds = not (validDate 29022011) }
+    -- M7 the awards above, and the last reception's 302
+    ∷ row 7 workedAwards ((22223 ∷ replicate 9 0) ++ (60000 ∷ replicate 9 0) ++ (17777 ∷ replicate 9 0))
+    ∷ row 7 (listOf (allotment terms (bidsInBook (tenderAfter worked .book)) .marginal)) (120000 ∷ [])
+    ∷ row 7 (answerAfter worked (reception 104100 (message 90002 102000 [])) ∷ []) (302 ∷ [])
+    -- M8 two bids of 10000 sharing 15000 get 7500 each; stated with that amount offered, since in the tender above every bid is a multiple of 10000
+    ∷ row 8 (shared Lp 100000 15000 ((120000, 10000) ∷ (120000, 10000) ∷ [])) (7500 ∷ 7500 ∷ [])
+    -- M9 three of 10000 sharing 10000 get 3334, 3333, 3333
+    ∷ row 9 (shared Lp 100000 10000 ((120000, 10000) ∷ (120000, 10000) ∷ (120000, 10000) ∷ [])) (3334 ∷ 3333 ∷ 3333 ∷ [])
+    -- M10 ten zero places after an application leave no bids
+    ∷ row 10 (map amount (bidsInBook (tenderAfter (reception 103000 (message 90001 102900 ((120000, 10000) ∷ [])) ∷ reception 103100 (message 90001 103000 []) ∷ []) .book))) (replicate 30 0)
+    -- a cancellation's time is held: an older application is too late, and so is one of the same time
+    ∷ row 0 (answerAfter (reception 103000 (message 90001 102900 []) ∷ []) (reception 103100 (message 90001 102800 ((120000, 10000) ∷ []))) ∷ []) (302 ∷ [])
+    ∷ row 0 (answerAfter (reception 103000 (message 90001 102900 []) ∷ []) (reception 103100 (message 90001 102900 ((120000, 10000) ∷ []))) ∷ []) (302 ∷ [])
+    -- a later one is confirmed, and its bids replace all ten places
+    ∷ row 0 (answerAfter (reception 103000 (message 90001 102900 ((130000, 10000) ∷ (120000, 10000) ∷ [])) ∷ []) (reception 103100 (message 90001 103000 ((140000, 20000) ∷ []))) ∷ []) (0 ∷ [])
+    ∷ row 0 (map amount (take 10 (bidsInBook (tenderAfter (reception 103000 (message 90001 102900 ((130000, 10000) ∷ (120000, 10000) ∷ [])) ∷ reception 103100 (message 90001 103000 ((140000, 20000) ∷ [])) ∷ []) .book)))) (20000 ∷ replicate 9 0)
+    -- in LA the lowest rate is best, and bids above the limit rate are out
+    ∷ row 0 (shared La 200000 15000 ((120000, 10000) ∷ (110000, 10000) ∷ (201000, 10000) ∷ [])) (5000 ∷ 10000 ∷ 0 ∷ [])
+    ∷ row 0 (listOf (marginal La 200000 15000 ((120000, 10000) ∷ (110000, 10000) ∷ (201000, 10000) ∷ []))) (120000 ∷ [])
+    -- in LA a rate of zero is the best, and empty places take no cent from bids at it
+    ∷ row 0 (shared La 0 20000 ((0, 0) ∷ (0, 10000) ∷ (0, 10000) ∷ (0, 10000) ∷ [])) (0 ∷ 6667 ∷ 6667 ∷ 6666 ∷ [])
+    -- the amount offered met exactly: the rate that meets it is marginal; not met: none
+    ∷ row 0 (listOf (marginal Lp 100000 20000 ((130000, 10000) ∷ (120000, 10000) ∷ (110000, 10000) ∷ []))) (120000 ∷ [])
+    ∷ row 0 (shared Lp 100000 20000 ((130000, 10000) ∷ (120000, 10000) ∷ (110000, 10000) ∷ [])) (10000 ∷ 10000 ∷ 0 ∷ [])
+    ∷ row 0 (listOf (marginal Lp 100000 30001 ((130000, 10000) ∷ (120000, 10000) ∷ (110000, 10000) ∷ []))) []
+    -- amounts of fifteen digits, whose product is over 64 bits
+    ∷ row 0 (shared Lp 100000 999999999999999 ((120000, 999999999999999) ∷ (120000, 999999999999999) ∷ [])) (500000000000000 ∷ 499999999999999 ∷ [])
+    -- a round for each binary digit, and none for zero
+    ∷ row 0 (division 60000 40000 90000 .quotient ∷ division 60000 40000 90000 .remainder ∷ division 60000 40000 90000 .count ∷ []) (26666 ∷ 60000 ∷ 16 ∷ [])
+    ∷ row 0 (division 0 40000 90000 .quotient ∷ division 0 40000 90000 .count ∷ []) (0 ∷ 0 ∷ [])
+    ∷ []
+
+-- the theorem: every row holds
+abbrev pub MarkedCases : Type 0
+MarkedCases = lib.Dec.T (allHold table)
