@@ -8,4 +8,4 @@ pub mod Bound
 pub mod Rearranging
 pub mod Book
 pub mod ArrivalOrder
-pub mod Marked
+pub mod Tables

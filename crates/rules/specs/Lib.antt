@@ -5,3 +5,4 @@ pub mod Replies
 pub mod Calls
 pub mod ArrivalOrder
 pub mod Marked
+pub mod Rows
