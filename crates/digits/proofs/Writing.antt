@@ -1,17 +1,16 @@
 -- Laws of written digits and the return trip, over the width. Assumes nothing.
 use mathlib.Core.Path.{_≡_, refl, sym, ap, _∙_}
-use mathlib.Core.Bool.{Bool, true, false, _&&_, and-true}
+use mathlib.Core.Bool.{true}
 use mathlib.Core.List.{List, [], _∷_, _++_, append-assoc, append-nil}
 use Prim.Native.Nat.{ℕ, zero, suc, _+_, _*_, _-_, _/_, _%_, _^_, _≤_, _<_}
 use native.Mathlib.Nat.{pow-suc, add-zero, zero-add, div-lt-iff-lt-mul}
 use native.Mathlib.Omega.{arith}
-use lib.Dec.{leb, lit<}
-use lib.ListN.{length, drop, getD, set, length-append, length-set}
+use lib.Dec.{lit<}
+use lib.ListN.{length, drop, set, length-append, length-set}
 use lib.Seq.{drop-cons, getD-set-same, drop-set-lt}
 use borrow.Author.Tests.{le-leb}
-use Rattle.digits.specs.declared.Digits.{Digits}
-use Rattle.digits.specs.declared.Digits.the-variants.{Number, None}
-use Rattle.digits.specs.Decimal.{isDigit, allDigits, numberFrom, numberOf, digitsOf, digits}
+use Rattle.digits.specs.declared.Digits.the-variants.{Number}
+use Rattle.digits.specs.Decimal.{allDigits, numberFrom, numberOf, digitsOf, digits}
 use Rattle.digits.proofs.Reading.{digit-range, first-digit, rest-digits, number-is, is-number, number-join, digits-join}
 
 pub length-digits : (w n : ℕ) → length (digits w n) ≡ w

@@ -1,12 +1,11 @@
 -- Laws of the fields of a readable 6G1. Assumes nothing.
 use mathlib.Core.Path.{_≡_, refl}
 use mathlib.Core.Bool.{true}
-use mathlib.Core.List.{List, []}
-use Prim.Native.Nat.{ℕ, _≤_, _<_}
-use native.Mathlib.Omega.{arith}
+use mathlib.Core.List.{List}
+use Prim.Native.Nat.{ℕ, _<_}
 use lib.Dec.{lit<}
 use lib.ListN.{length}
-use Rattle.layout.specs.Fields.{readable, content, whole}
+use Rattle.layout.specs.Fields.{readable, whole}
 use Rattle.layout.proofs.ReturnTrip.{whole-of, length-fixed}
 use Rattle.envelope.specs.declared.application.Field.{Field}
 use Rattle.envelope.specs.declared.application.Field.the-variants.{MessageType, Sender, Recipient, Cro, Date, Time, Check, Identifier, Bids, Name}

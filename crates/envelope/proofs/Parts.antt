@@ -1,15 +1,15 @@
 -- The characteristics by the places of their parts. Assumes nothing.
-use mathlib.Core.Path.{_≡_, refl, sym, ap, _∙_}
+use mathlib.Core.Path.{_≡_, refl, _∙_}
 use mathlib.Core.Bool.{Bool, true, false, _&&_, and-assoc, and-true}
 use mathlib.Core.List.{List, [], _∷_}
 use Prim.Native.Nat.{ℕ, _-_, _≤_, _<_, _^_}
 use native.Mathlib.Nat.{one-le-pow}
 use native.Mathlib.Omega.{arith}
 use lib.Dec.{eqb, lit<}
-use lib.ListN.{length, take, drop, getD, length-drop}
+use lib.ListN.{length, drop, getD, length-drop}
 use lib.Seq.{length-take-le}
 use borrow.Author.Tests.{eq-eqb}
-use Rattle.digits.specs.Decimal.{allDigits, numberOf, digitsOf, numberIn}
+use Rattle.digits.specs.Decimal.{allDigits, digitsOf, numberIn}
 use Rattle.digits.proofs.Reading.{number-is, none-is, number-below}
 use Rattle.places.specs.Bids.{slash}
 use Rattle.envelope.specs.Announcement.{widths, joined, numbersIn}

@@ -1,34 +1,31 @@
 -- The return trip of a 6G1, both ways. Assumes nothing.
 use mathlib.Core.Path.{_≡_, refl, sym, ap, ap₂, _∙_}
-use mathlib.Core.Bool.{Bool, true, false, cond, not, _&&_, false≢true}
-use mathlib.Core.List.{List, [], _∷_, _++_}
+use mathlib.Core.Bool.{Bool, true, false, _&&_, false≢true}
+use mathlib.Core.List.{List, [], _++_}
 use mathlib.Core.Option.{Option, none, some}
-use Prim.Native.Nat.{ℕ, _≤_, _<_, _^_}
+use Prim.Native.Nat.{ℕ, _<_, _^_}
 use native.Mathlib.Omega.{arith}
-use lib.Dec.{eqb, ltb, lit<}
-use lib.ListN.{length, take, drop, getD, replicate}
+use lib.Dec.{ltb, lit<}
+use lib.ListN.{length, take, drop, getD}
 use lib.Seq.{take-at}
-use borrow.Author.Tests.{ltb-true, ltb-false, lt-ltb, le-ltb, eq-eqb}
+use borrow.Author.Tests.{ltb-true, lt-ltb, le-ltb, eq-eqb}
 use Rattle.laws.proofs.Tests.{and-left, and-right}
 use Rattle.digits.specs.declared.Digits.{Digits}
 use Rattle.digits.specs.declared.Digits.the-variants.{Number, None}
 use Rattle.digits.specs.Decimal.{digits, digitsOf, isNumber, numberIn}
 use Rattle.digits.proofs.Reading.{is-number, number-below}
 use Rattle.digits.proofs.Writing.{length-digits, read-written, number-written}
-use Rattle.layout.specs.Fields.{readable, content, encoded}
+use Rattle.layout.specs.Fields.{readable, content}
 use Rattle.layout.proofs.ReturnTrip.{allBelow, narrow, Permitted, permits-fixed, readable-encoded, content-encoded, Contents, encoded-back}
-use Rattle.places.specs.declared.Rate.{Rate}
-use Rattle.places.specs.declared.Amount.{Amount}
-use Rattle.places.specs.declared.Place.{Place}
-use Rattle.places.specs.Bids.{fits, placesFit, placesText, placesIn, placesOf, allFormed}
+use Rattle.places.specs.Bids.{fits, placesFit, placesText, placesOf, allFormed}
 use Rattle.places.proofs.Writing.{length-places}
 use Rattle.places.proofs.ReturnTrip.{places-back, places-written, places-fit}
 use Rattle.envelope.specs.declared.application.Field.{Field}
 use Rattle.envelope.specs.declared.application.Field.the-variants.{MessageType, Sender, Recipient, Cro, Date, Time, Check, Identifier, Bids, Name}
 use Rattle.envelope.specs.declared.application.Fields.{Fields}
 use Rattle.envelope.specs.declared.application.Application.{Application}
-use Rattle.envelope.specs.Refusals.{firstHolding, unlessRefused}
-use Rattle.envelope.specs.Application.{layout6G1, position, bytesOf, fieldBytes, fieldsOf, noFields, reading, isIdentifier, numbersFit, textsFit, texts, written, write}
+use Rattle.envelope.specs.Refusals.{firstHolding}
+use Rattle.envelope.specs.Application.{layout6G1, position, bytesOf, fieldBytes, fieldsOf, reading, isIdentifier, numbersFit, textsFit, texts, written, write}
 use Rattle.envelope.specs.ReturnTrip.{fieldsFrom, TenPlaces, WrittenReadsBack, allWellFormed, applicationFrom, ReadableWritesBack}
 use Rattle.envelope.proofs.Fields6G1.{width, length-field}
 use Rattle.envelope.proofs.Writing.{length-written, length-kind, length-identifier, length-name}

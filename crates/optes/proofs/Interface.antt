@@ -1,28 +1,26 @@
 -- Laws of what a host asks. Assumes nothing.
 use mathlib.Core.Path.{_≡_, refl, sym, ap, _∙_}
-use mathlib.Core.Bool.{Bool, true, false, cond, not, _&&_, false≢true}
-use mathlib.Core.List.{List, [], _∷_, map}
-use Prim.Native.Nat.{ℕ, zero, suc, _+_, _*_, _≤_, _<_}
+use mathlib.Core.Bool.{true, false, _&&_, false≢true}
+use mathlib.Core.List.{List, map}
+use Prim.Native.Nat.{ℕ, zero, suc, _*_, _≤_, _<_}
 use native.Mathlib.Omega.{arith}
 use lib.Dec.{leb, ltb}
-use lib.ListN.{length, take, drop, getD, replicate, length-map, List·getD-map, List·getD-eq-default}
+use lib.ListN.{length, take, drop, getD, replicate, List·getD-map, List·getD-eq-default}
 use borrow.Author.Tests.{ltb-true}
 use Rattle.laws.proofs.Tests.{and-left, and-right}
-use Rattle.digits.specs.declared.Digits.{Digits}
 use Rattle.digits.specs.declared.Digits.the-variants.{None}
 use Rattle.digits.specs.Decimal.{digitsOf}
 use Rattle.layout.specs.Fields.{readable, content, whole}
 use Rattle.layout.proofs.ReturnTrip.{whole-of}
 use Rattle.places.specs.declared.Place.{Place}
-use Rattle.places.specs.declared.Places.{Places}
 use Rattle.places.specs.Bids.{malformed, placeOf, placesIn, columns, placesOf}
-use Rattle.places.proofs.Reading.{length-places, place-at}
+use Rattle.places.proofs.Reading.{place-at}
 use Rattle.envelope.specs.declared.application.Field.the-variants.{Sender, Recipient, Cro, Date, Time, Check}
 use Rattle.envelope.specs.declared.application.Fields.{Fields}
 use Rattle.envelope.specs.Refusals.{firstHolding}
 use Rattle.envelope.specs.Application.{layout6G1, fieldsOf, noFields, reading}
 use Rattle.envelope.proofs.Fields6G1.{whole-field, length-field}
-use Rattle.optes.specs.Interface.{hasField, numbered, fieldDigits, placeNumbered, placeAt}
+use Rattle.optes.specs.Interface.{hasField, numbered, fieldDigits, placeNumbered}
 
 -- a field that is there is whole
 pub whole-there : (k : ℕ) (m : List ℕ) → hasField k m ≡ true → whole k m ≡ true

@@ -1,9 +1,8 @@
 -- A rate held in 32 bits is written, or refused, as the rate itself. Assumes nothing.
 use mathlib.Core.Path.{_≡_, refl, sym, ap, ap₂, _∙_}
-use mathlib.Core.Bool.{Bool, true, false, cond, not, _&&_}
+use mathlib.Core.Bool.{Bool, true, false, cond, _&&_}
 use mathlib.Core.List.{List, [], _∷_, map}
-use mathlib.Core.Option.{Option}
-use Prim.Native.Nat.{ℕ, _+_, _≤_, _<_, _^_}
+use Prim.Native.Nat.{ℕ, _≤_, _<_, _^_}
 use native.Mathlib.Omega.{arith}
 use lib.Dec.{ltb}
 use lib.ListN.{length}
@@ -14,7 +13,7 @@ use Rattle.places.specs.declared.Amount.{Amount}
 use Rattle.places.specs.Bids.{fits, placesFit}
 use Rattle.envelope.specs.declared.application.Application.{Application}
 use Rattle.envelope.specs.Refusals.{firstHolding}
-use Rattle.envelope.specs.Application.{numbersFit, textsFit, write}
+use Rattle.envelope.specs.Application.{numbersFit, write}
 use Rattle.optes.specs.Interface.{rateOf, heldRate}
 
 held : (n : ℕ) → n < 4294967296 → heldRate n ≡ rateOf n

@@ -1,8 +1,8 @@
 -- Laws of places read. Assumes nothing.
 use mathlib.Core.Path.{_≡_, refl, sym, ap, _∙_}
-use mathlib.Core.Bool.{Bool, true, false, _&&_}
+use mathlib.Core.Bool.{true, false, _&&_}
 use mathlib.Core.List.{List, [], _∷_, _++_, map}
-use Prim.Native.Nat.{ℕ, zero, suc, _+_, _*_, _^_, _≤_, _<_}
+use Prim.Native.Nat.{ℕ, zero, suc, _+_, _*_, _^_, _<_}
 use native.Mathlib.Nat.{not-suc-le-zero, le-of-suc-le-suc, mul-suc, add-comm}
 use native.Mathlib.Omega.{arith}
 use lib.Dec.{eqb}
@@ -11,7 +11,7 @@ use lib.Seq.{drop-drop, take-nil, take-add, length-take-le}
 use borrow.Author.Tests.{eqb-true}
 use Rattle.laws.proofs.Tests.{and-left, and-right}
 use Rattle.laws.proofs.Arrays.{fill-more, fill-all}
-use Rattle.digits.specs.Decimal.{allDigits, numberFrom, numberOf}
+use Rattle.digits.specs.Decimal.{allDigits, numberOf}
 use Rattle.digits.proofs.Reading.{number-shift, number-join, digits-join}
 use Rattle.places.specs.declared.Place.{Place}
 use Rattle.places.specs.Bids.{slash, wellFormed, malformed, isPlace, placeOf, placesIn}

@@ -1,13 +1,13 @@
 -- Places written read back, and well-formed places read, written from their numbers, are the same bytes. Assumes nothing.
-use mathlib.Core.Path.{_≡_, refl, sym, ap, ap₂, _∙_}
+use mathlib.Core.Path.{_≡_, refl, sym, ap, _∙_}
 use mathlib.Core.Bool.{Bool, true, false, cond, _&&_, false≢true}
 use mathlib.Core.List.{List, [], _∷_, _++_, map}
-use Prim.Native.Nat.{ℕ, zero, suc, _+_, _*_, _^_, _≤_, _<_}
+use Prim.Native.Nat.{ℕ, zero, suc, _+_, _*_, _^_}
 use native.Mathlib.Omega.{arith}
-use lib.Dec.{eqb, ltb}
+use lib.Dec.{eqb}
 use lib.ListN.{length, take, drop, getD, replicate, length-append, length-drop, take-append-drop}
 use lib.Seq.{append-snoc, getD-at, take-at, drop-at, take-all, split-at, length-take-le}
-use borrow.Author.Tests.{eq-eqb, eqb-true, lt-ltb, ltb-true}
+use borrow.Author.Tests.{eqb-true, lt-ltb, ltb-true}
 use Rattle.laws.proofs.Tests.{and-left, and-right}
 use Rattle.digits.specs.Decimal.{allDigits, numberOf, digits}
 use Rattle.digits.proofs.Reading.{number-is, number-below}
@@ -15,7 +15,6 @@ use Rattle.digits.proofs.Writing.{length-digits, written-digits, written-number
 use Rattle.places.specs.declared.Rate.{Rate}
 use Rattle.places.specs.declared.Amount.{Amount}
 use Rattle.places.specs.declared.Place.{Place}
-use Rattle.places.specs.declared.Places.{Places}
 use Rattle.places.specs.Bids.{slash, wellFormed, malformed, isPlace, placeOf, placesIn, columns, allFormed, placeText, placesText, fits, placesFit}
 use Rattle.places.proofs.Writing.{length-place}
 

@@ -1,6 +1,6 @@
 -- Demand 3, from what the book holds and from the sum of the awards. Assumes nothing.
 use mathlib.Core.Path.{_≡_, refl, sym, _∙_, ap, ap₂, subst}
-use mathlib.Core.Bool.{Bool, true, false, cond, not, _&&_, _||_, false≢true, and-false}
+use mathlib.Core.Bool.{Bool, true, false, cond, not, _&&_, _||_, and-false}
 use mathlib.Core.List.{List, [], _∷_, _++_, map, List·Memᴰ, List·Memᴰ·head, List·Memᴰ·tail}
 use mathlib.Core.Option.{Option, none, some}
 use Prim.Native.Nat.{ℕ, zero, suc, _+_, _-_, _*_, _^_, _≤_, _<_, min}
@@ -8,21 +8,20 @@ use native.Mathlib.Nat.{pow-le-pow-right}
 use native.Mathlib.Omega.{arith}
 use lib.Dec.{ltb, eqb, lit<}
 use lib.ListN.{length, take, drop, getD, replicate, length-take}
-use borrow.Author.Tests.{ltb-false, lt-ltb, le-ltb}
-use Rattle.calendar.specs.Calendar.{validDate, validTime, later}
-use Rattle.laws.proofs.Tests.{and-left, and-right, or-left, or-right}
+use borrow.Author.Tests.{ltb-false, le-ltb}
+use Rattle.calendar.specs.Calendar.{validDate, validTime}
+use Rattle.laws.proofs.Tests.{and-right, or-left, or-right}
 use Rattle.digits.specs.Decimal.{allDigits, numberOf}
 use Rattle.digits.proofs.Reading.{below-length}
 use Rattle.layout.specs.Fields.{readable}
-use Rattle.places.specs.declared.Place.{Place}
 use Rattle.places.specs.Bids.{slash, wellFormed, malformed, isPlace, placeOf, placesIn}
 use Rattle.envelope.specs.declared.application.Field.the-variants.{Bids}
-use Rattle.envelope.specs.Refusals.{firstHolding, unlessRefused}
-use Rattle.envelope.specs.Application.{layout6G1, bytesOf, unreadable}
+use Rattle.envelope.specs.Refusals.{firstHolding}
+use Rattle.envelope.specs.Application.{layout6G1, bytesOf}
 use Rattle.rules.specs.Allotment.{Bid, noBid, filled, Offer, isIn, keep, total, awards, sum, totalIn}
 use Rattle.rules.specs.Opening.{Terms, any, notAnnouncement, otherOrigin, malformedAnnouncement, unknownType, impossibleNumbers, datesDisordered, badCodes, rising, openingRefused, termsOf, offerOf}
 use Rattle.rules.specs.Receiving.{Reception, placesOf, bidOf, bidsOf, Error, when, errors, isEmpty, isSound, Submission, submission, Entry, newBook, isAfter, isFrom, takes, hold, returnedErrors}
-use Rattle.rules.specs.Calls.{State, Open, Closed, Tender, inState, openTender, isRevoked, isOver, clockInvalid, spaceShort, beforeCutOff, isOpen, isAnnounced, bidsInBook, bidsExceed, receivingRefused, answerWith, answerUnless, receive, closingRefused, close, allottingRefused, places640, Allotted, allotment, allot}
+use Rattle.rules.specs.Calls.{Open, Closed, Tender, inState, openTender, isRevoked, isOver, clockInvalid, spaceShort, beforeCutOff, isOpen, isAnnounced, bidsInBook, bidsExceed, receivingRefused, answerWith, answerUnless, receive, closingRefused, close, allottingRefused, places640, Allotted, allotment, allot}
 use Rattle.rules.specs.ArrivalOrder.{receiveAll, EnoughSpace, NoConflict, Rearranged, PastCutOff, afterReceptions, afterClosing, latest, bidsOfLatest, finalBids, allFinalBids, finalBook, Settled, ArrivalOrder, AnyLatest}
 use Rattle.rules.proofs.Kept.{mem-keep}
 use Rattle.rules.proofs.Sum.{awards-sum}

@@ -6,9 +6,10 @@ use Prim.Native.Nat.{ℕ, zero, suc, _+_, _-_, _*_, _/_, _%_, _^_, _≤_, _<_}
 use native.Mathlib.Nat.{sub-zero, add-mul, mul-assoc, mul-add-div-right, mul-add-mod-self-right, div-add-mod', div-div-eq-div-mul, pow-suc, div-one, div-eq-of-lt, zero-div, zero-mod, zero-mul}
 use native.Mathlib.Omega.{arith}
 use lib.Arith.{half-le}
+use Rattle.rules.specs.Theorems.{nextRound}
 use Rattle.rules.specs.Allotment.{Bid, Offer, totalBetter, totalEqual, lengthIn, binaryLength, firstDigits, Division, divisionAt, division, share}
 
--- ── the digits of a ──
+-- the digits of a
 
 below-length : (d a : ℕ) → a ≤ d → a < 2 ^ lengthIn d a
 unfolding lengthIn
@@ -42,16 +43,11 @@ first-more a k h =
     ap (λ (x : ℕ). a / 2 ^ x) e ∙ ap (λ (x : ℕ). a / x) (pow-suc 2 j) ∙ sym (div-div-eq-div-mul a (2 ^ j) 2) in
     omega (arith, s)
 
--- ── the rounds ──
+-- the rounds
 
 pub first-round : (a m e : ℕ) → divisionAt a m e 0 ≡ record { quotient = 0; remainder = 0; count = 0 }
 unfolding divisionAt
 first-round a m e = simp (first-none a, zero-mul, zero-div, zero-mod)
-
--- a round with the digit d
-abbrev pub round : ℕ → ℕ → ℕ → Division → Division
-round d m e v =
-    record { quotient = 2 * v .quotient + (2 * v .remainder + d * m) / e; remainder = (2 * v .remainder + d * m) % e; count = v .count + 1 }
 
 module _ (a m e k : ℕ) (below : k < binaryLength a) where
   -- the next number times m
@@ -61,7 +57,7 @@ module _ (a m e k : ℕ) (below : k < binaryLength a) where
       let more : firstDigits a (k + 1) * m ≡ (2 * n + digitAfter a k) * m = ap (λ (x : ℕ). x * m) (first-more a k below) in
       omega (arith, more, div-add-mod' (n * m) e, add-mul (2 * n) (digitAfter a k) m, mul-assoc 2 n m, mul-assoc 2 (n * m / e) e)
 
-  pub next-round : 0 < e → divisionAt a m e (k + 1) ≡ round (digitAfter a k) m e (divisionAt a m e k)
+  pub next-round : 0 < e → divisionAt a m e (k + 1) ≡ nextRound (digitAfter a k) m e (divisionAt a m e k)
   unfolding divisionAt
   next-round pos =
       let t = 2 * (firstDigits a k * m % e) + digitAfter a k * m in
@@ -70,7 +66,7 @@ module _ (a m e k : ℕ) (below : k < binaryLength a) where
       (ap (λ (x : ℕ). x / e) product ∙ mul-add-div-right {m = e} pos q t)
       (ap (λ (x : ℕ). x % e) product ∙ mul-add-mod-self-right q e t)
 
--- ── the share ──
+-- the share
 
 pub share-is : (o : Offer) (bs : List Bid) (r a : ℕ) → share o bs r a ≡ a * (o .offered - totalBetter o bs r) / totalEqual o bs r
 unfolding share division divisionAt

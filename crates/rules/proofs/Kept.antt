@@ -8,7 +8,7 @@ use native.Mathlib.Omega.{arith}
 use lib.ListN.{length}
 use Rattle.rules.specs.Allotment.{Bid, keep, total}
 
--- ── members ──
+-- members
 
 pub mem-keep : {A : Type 0} (p : A → Bool) (xs : List A) {x : A} → List·Memᴰ x (keep p xs) → List·Memᴰ x xs × (p x ≡ true)
 unfolding keep
@@ -42,7 +42,7 @@ unfolding keep
 keep-agree p q [] h = refl
 keep-agree p q (b ∷ bs) h = rw (h b (List·Memᴰ·head refl), keep-agree p q bs (λ c m. h c (List·Memᴰ·tail m)))
 
--- ── totals ──
+-- totals
 
 pub total-cons : (p : Bid → Bool) (b : Bid) (bs : List Bid) → total (keep p (b ∷ bs)) ≡ cond (p b) (b .amount) 0 + total (keep p bs)
 unfolding total keep
@@ -62,7 +62,7 @@ total-split p q r s [] = refl
 total-split p q r s (b ∷ bs) =
     omega (arith, total-split p q r s bs, total-cons p b bs, total-cons q b bs, total-cons r b bs, s b (b .amount))
 
--- ── lengths ──
+-- lengths
 
 pub length-last : (p : Bid → Bool) (bs : List Bid) (b : Bid) → length (keep p (bs ++ (b ∷ []))) ≡ length (keep p bs) + cond (p b) 1 0
 unfolding keep

@@ -8,4 +8,5 @@ pub mod Bound
 pub mod Rearranging
 pub mod Book
 pub mod ArrivalOrder
+pub mod Theorems
 pub mod Tables

@@ -46,7 +46,7 @@ cent-step c l = go (ltb c l) refl
     go true e = omega (arith, ltb-true)
     go false e = omega (arith, ltb-false)
 
--- ── the shares at a rate ──
+-- the shares at a rate
 
 module _ (o : Offer) (bs : List Bid) (r : ℕ) where
   share-low : (a : ℕ) → totalEqual o bs r * share o bs r a ≤ a * (o .offered - totalBetter o bs r)
@@ -202,7 +202,7 @@ module _ (o : Offer) (bs : List Bid) where
       let p = notWorse o r in let q = isBetter o r in let e = isEqual o r in
       omega (arith, rate-sum r, part-split p q e (split-rate o r) [] bs, total-split p q e (split-rate o r) bs)
 
--- ── tests that agree, and one that never holds ──
+-- tests that agree, and one that never holds
 
 part-agree : (o : Offer) (all : List Bid) (p q : Bid → Bool) (before bs : List Bid) → Agree p q bs → part o all p before bs ≡ part o all q before bs
 unfolding part
@@ -240,7 +240,7 @@ unfolding rateBound
 below-bound (List·Memᴰ·head e) = omega (arith, ap {B = ℕ} (λ (b : Bid). b .rate) e)
 below-bound (List·Memᴰ·tail m) = omega (arith, below-bound m)
 
--- ── from one rate to the next ──
+-- from one rate to the next
 
 below-suc : (x r : ℕ) → ltb x (suc r) ≡ not (ltb r x)
 below-suc x r = go (ltb r x) refl

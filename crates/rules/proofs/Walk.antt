@@ -169,7 +169,7 @@ module _ (o : Offer) (bs : List Bid) where
           go b m i p true e = w .short b m i (better-past b m i e)
           go b m i p false e = rw (same-rate (o .side) (b .rate) r e p) (omega (arith, better-is))
 
--- ── the walk ends ──
+-- the walk ends
 
 module _ (o : Offer) (bs : List Bid) where
   fewer : (at : Option ℕ) (running : ℕ) (w : Walked o bs at running) (r : ℕ) → IsBest (o .side) (keep (isPast o at) bs) (some r)

@@ -1,6 +1,6 @@
 -- Demand 3: the sum awarded on each bid does not depend on the order of arrival. Assumes nothing.
 use mathlib.Core.Path.{_≡_}
-use mathlib.Core.Bool.{Bool, true, cond}
+use mathlib.Core.Bool.{true, cond}
 use mathlib.Core.List.{List, [], _∷_, _++_, map, List·Memᴰ}
 use mathlib.Core.Option.{Option, none, some}
 use Prim.Native.Nat.{ℕ, _≤_, min}
@@ -10,7 +10,7 @@ use Rattle.calendar.specs.Calendar.{validDate, validTime, later}
 use Rattle.rules.specs.Allotment.{Bid, keep, awards, sum, totalIn}
 use Rattle.rules.specs.Opening.{Terms, openingRefused, termsOf, offerOf}
 use Rattle.rules.specs.Receiving.{Reception, Submission, submission, tenZeros, isFrom}
-use Rattle.rules.specs.Calls.{Tender, Allotted, openTender, receive, close, allot, places640, allotment}
+use Rattle.rules.specs.Calls.{Tender, openTender, receive, close, allot, allotment}
 
 -- 'every list of receptions, refused ones included, .. each on the tender that the last one returned'
 unfoldable pub receiveAll : Tender → List Reception → Tender

@@ -4,5 +4,6 @@ pub mod Receiving
 pub mod Replies
 pub mod Calls
 pub mod ArrivalOrder
+pub mod Theorems
 pub mod Marked
 pub mod Rows

@@ -1,9 +1,8 @@
 -- Document 01's marked cases M1 to M10, and further ones that pin what demand 3 leaves open, as one table. Assumes nothing.
-use mathlib.Core.Bool.{Bool, true, false, not, _&&_}
+use mathlib.Core.Bool.{Bool, true, not, _&&_}
 use mathlib.Core.List.{List, [], _∷_, _++_, map}
 use mathlib.Core.Option.{Option, none, some}
 use Prim.Native.Nat.{ℕ}
-use lib.Dec.{eqb}
 use lib.ListN.{length, replicate, getD, take}
 use Rattle.calendar.specs.Calendar.{validDate}
 use Rattle.layout.specs.Fields.{encoded}
@@ -14,10 +13,10 @@ use Rattle.envelope.specs.declared.announcement.Side.{Side}
 use Rattle.envelope.specs.declared.announcement.Side.the-variants.{La, Lp}
 use Rattle.envelope.specs.Announcement.{layout6G0}
 use Rattle.envelope.specs.Application.{written}
-use Rattle.rules.specs.Allotment.{Bid, Offer, isIn, division, awards, marginalRate}
+use Rattle.rules.specs.Allotment.{Bid, isIn, division, awards, marginalRate}
 use Rattle.rules.specs.Opening.{Terms, openingRefused, termsOf, offerOf}
-use Rattle.rules.specs.Receiving.{Reception, Error, errors, tenZeros}
-use Rattle.rules.specs.Calls.{Tender, Answer, confirmed, returned, refused, openTender, receive, bidsInBook, Allotted, allotment}
+use Rattle.rules.specs.Receiving.{Reception, Error, errors}
+use Rattle.rules.specs.Calls.{Tender, Answer, confirmed, returned, refused, openTender, receive, bidsInBook, allotment}
 use Rattle.rules.specs.ArrivalOrder.{receiveAll}
 
 -- 'Tender LP of 12032012, most bids 3, amount offered 100000, minimum and increment 10000, no maximum, minimum allocation 0, limit 00100000,

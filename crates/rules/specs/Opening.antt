@@ -1,9 +1,9 @@
 -- The terms of a tender and the refusals of opening (document 01, 'What a call refuses' 1 to 7). Assumes nothing.
-use mathlib.Core.Bool.{Bool, true, false, cond, not, _&&_, _||_}
+use mathlib.Core.Bool.{Bool, true, false, not, _&&_, _||_}
 use mathlib.Core.List.{List, [], _∷_}
 use mathlib.Core.Option.{Option}
 use Prim.Native.Nat.{ℕ}
-use lib.Dec.{eqb, leb, ltb}
+use lib.Dec.{eqb, ltb}
 use lib.ListN.{length, replicate}
 use Rattle.calendar.specs.Calendar.{validDate, validTime}
 use Rattle.digits.specs.declared.Digits.{Digits}
@@ -13,7 +13,7 @@ use Rattle.layout.specs.Fields.{readable}
 use Rattle.texts.specs.Texts.{sameText, ascii}
 use Rattle.envelope.specs.declared.announcement.Field.the-variants.{MessageType, Sender, Identifier}
 use Rattle.envelope.specs.declared.announcement.Side.{Side}
-use Rattle.envelope.specs.declared.announcement.Side.the-variants.{La, Lp}
+use Rattle.envelope.specs.declared.announcement.Side.the-variants.{La}
 use Rattle.envelope.specs.declared.announcement.Kind.{Kind}
 use Rattle.envelope.specs.declared.announcement.Kind.the-variants.{Tender, Unknown}
 use Rattle.envelope.specs.declared.announcement.Characteristics.{Characteristics}

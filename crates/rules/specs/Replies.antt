@@ -1,5 +1,5 @@
 -- The two replies as bytes (document 01, 'Replies and writing'). Assumes nothing.
-use mathlib.Core.Bool.{Bool, true, false, cond}
+use mathlib.Core.Bool.{cond}
 use mathlib.Core.List.{List, [], _∷_, _++_}
 use Prim.Native.Nat.{ℕ}
 use lib.Dec.{leb}
@@ -7,7 +7,7 @@ use lib.ListN.{length, take}
 use Rattle.digits.specs.Decimal.{digits}
 use Rattle.layout.specs.Fields.{field}
 use Rattle.texts.specs.Texts.{ascii}
-use Rattle.envelope.specs.declared.application.Field.the-variants.{Sender, Cro, Identifier}
+use Rattle.envelope.specs.declared.application.Field.the-variants.{Sender, Cro}
 use Rattle.envelope.specs.Application.{bytesOf}
 use Rattle.rules.specs.Opening.{Terms}
 use Rattle.rules.specs.Receiving.{Reception, Error}

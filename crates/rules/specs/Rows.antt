@@ -1,15 +1,14 @@
 -- A row for each refusal, error and reply of document 01, as one table; the tender is that of the marked cases. Assumes nothing.
-use mathlib.Core.Bool.{Bool, true, false, not, _&&_}
 use mathlib.Core.List.{List, [], _∷_, _++_, map}
-use mathlib.Core.Option.{Option, none, some}
+use mathlib.Core.Option.{none}
 use Prim.Native.Nat.{ℕ, _+_}
-use lib.Dec.{T, eqb}
-use lib.ListN.{length, replicate, set, take}
-use Rattle.texts.specs.Texts.{sameText, ascii}
-use Rattle.rules.specs.Opening.{Terms, openingRefused, termsOf}
-use Rattle.rules.specs.Receiving.{Reception, Error, errors, Entry}
-use Rattle.rules.specs.Calls.{State, Open, Closed, Announced, Revoked, Tender, inState, Answer, confirmed, returned, refused, openTender, receivingRefused, receive, closingRefused, close, allottingRefused, allot, revokingRefused, revoke}
-use Rattle.rules.specs.Marked.{announcement, admitted, terms, Pairs, message, reception, code, codesOf, Row, row, allHold, listOf}
+use lib.Dec.{T}
+use lib.ListN.{replicate, set, take}
+use Rattle.texts.specs.Texts.{ascii}
+use Rattle.rules.specs.Opening.{openingRefused, termsOf}
+use Rattle.rules.specs.Receiving.{errors, Entry}
+use Rattle.rules.specs.Calls.{Closed, Announced, Revoked, Tender, inState, Answer, confirmed, returned, refused, openTender, receivingRefused, receive, closingRefused, close, allottingRefused, allot, revokingRefused, revoke}
+use Rattle.rules.specs.Marked.{announcement, admitted, terms, message, reception, code, codesOf, Row, row, allHold, listOf}
 
 -- the announcement and a message with another byte at an index
 abbrev pub announced : ℕ → ℕ → List ℕ

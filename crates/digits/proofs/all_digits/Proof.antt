@@ -1,11 +1,10 @@
 -- `digits::all_digits` meets its contract. The loop's invariant: what is read and what is left are the whole. Assumes nothing.
-use mathlib.Core.Path.{_≡_, refl, sym, ap, _∙_}
-use mathlib.Core.Bool.{Bool, true, false, _&&_}
-use Prim.Native.Nat.{ℕ, _+_, _-_, _≤_, _<_}
+use mathlib.Core.Path.{_≡_, refl, sym, _∙_}
+use mathlib.Core.Bool.{_&&_}
+use Prim.Native.Nat.{_-_, _≤_}
 use native.Mathlib.Omega.{arith}
 use denote.Ref.{now}
-use lib.Dec.{leb}
-use lib.ListN.{length, drop, getD}
+use lib.ListN.{length, drop}
 use Rattle.digits.specs.Decimal.{allDigits}
 use Rattle.digits.proofs.Reading.{test-more, test-end}
 use Rattle.digits.proofs.all_digits.Statement.{statement}

@@ -4,8 +4,8 @@ use mathlib.Core.List.{List}
 use Prim.Native.Nat.{ℕ, _+_, _-_, _≤_}
 use native.Mathlib.Omega.{arith}
 use denote.Ref.{now}
-use lib.ListN.{length, drop, getD, length-drop}
-use Rattle.layout.specs.Fields.{Entry, entry, readable, layoutOf, starts, lengthAt}
+use lib.ListN.{length, drop, getD}
+use Rattle.layout.specs.Fields.{Entry, entry, readable, layoutOf, lengthAt}
 use Rattle.layout.proofs.Fields.{layout-at, layout-end, readable-no, readable-more, readable-end, fits-at}
 use Rattle.layout.proofs.readable.Statement.{statement}
 use Rattle.layout.proofs.readable.Tie as tie

@@ -2,15 +2,13 @@
 use mathlib.Core.Path.{_≡_, refl, sym, _∙_}
 use mathlib.Core.Bool.{_&&_}
 use borrow.Author.Needs.{needs}
-use Prim.Native.Nat.{ℕ, _-_, _≤_}
+use Prim.Native.Nat.{_-_, _≤_}
 use native.Mathlib.Omega.{arith}
 use lib.ListN.{length, drop}
 use Rattle.places.specs.Bids.{placesFit}
 use Rattle.places.proofs.Writing.{fit-more, fit-end}
 use Rattle.places.proofs.places_fit.Statement.{statement}
 use Rattle.places.proofs.places_fit.Tie as tie
-use Rattle.places.proofs.places_fit.Reads as reads
-use Rattle.places.proofs.places_fit.Lts as lts
 
 abbrev Inv-loop : tie.InvT-loop
 Inv-loop rates amounts ok₀ k₀ ok k = (k ≤ 10) × ((ok && placesFit (drop k rates) (drop k amounts)) ≡ placesFit rates amounts)

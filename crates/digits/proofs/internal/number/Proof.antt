@@ -1,6 +1,6 @@
 -- `digits::internal::number` meets its contract. Assumes nothing.
 use borrow.Author.Needs.{needs}
-use mathlib.Core.Path.{_≡_, sym, ap, _∙_}
+use mathlib.Core.Path.{sym, ap, _∙_}
 use denote.Ref.{now}
 use Rattle.digits.specs.declared.Digits.the-variants.{Number}
 use Rattle.digits.proofs.Reading.{number-is, none-is}

@@ -1,6 +1,6 @@
 -- `envelope::announcement::characteristics_of` meets its contract. Assumes nothing.
 use borrow.Author.Needs.{needs}
-use mathlib.Core.Path.{_≡_, sym, _∙_}
+use mathlib.Core.Path.{_≡_, _∙_}
 use mathlib.Core.Bool.{_&&_}
 use denote.Ref.{now}
 use Rattle.envelope.specs.Announcement.{widths, joined, characteristicsOf}

@@ -1,13 +1,11 @@
 -- `envelope::announcement::formed_characteristics` meets its contract. Assumes nothing.
 use borrow.Author.Needs.{needs}
-use mathlib.Core.Path.{_≡_, refl, sym, ap, _∙_}
-use Prim.Native.Nat.{ℕ, _<_}
+use mathlib.Core.Path.{refl, sym, ap, _∙_}
 use native.Mathlib.Omega.{arith}
 use denote.Ref.{now}
 use mathlib.Core.Bool.{true}
-use mathlib.Core.List.{List}
 use Rattle.envelope.specs.Announcement.{characteristicsFrom}
-use Rattle.envelope.specs.Parts.{partNumber, amountsOf}
+use Rattle.envelope.specs.Parts.{amountsOf}
 use Rattle.envelope.proofs.Parts.{numbers-parts, part-below}
 use Rattle.envelope.proofs.announcement.formed_characteristics.Statement.{statement}
 use Rattle.envelope.proofs.announcement.formed_characteristics.Tie as tie

@@ -5,9 +5,8 @@ use mathlib.Core.List.{List}
 use Prim.Native.Nat.{ℕ, _≤_}
 use native.Mathlib.Omega.{arith}
 use denote.Ref.{now}
-use lib.Dec.{leb}
 use lib.ListN.{length}
-use Rattle.layout.specs.Fields.{readable, content, whole}
+use Rattle.layout.specs.Fields.{readable, whole}
 use Rattle.places.specs.Bids.{placesOf}
 use Rattle.envelope.specs.declared.application.Field.{Field}
 use Rattle.envelope.specs.declared.application.Field.the-variants.{Sender, Recipient, Cro, Date, Time, Check, Bids}

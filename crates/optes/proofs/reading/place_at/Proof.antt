@@ -8,7 +8,6 @@ use native.Mathlib.Omega.{arith}
 use denote.Ref.{now}
 use lib.ListN.{length, take, drop}
 use Rattle.layout.specs.Fields.{readable}
-use Rattle.places.specs.declared.Places.{Places}
 use Rattle.places.specs.Bids.{placeOf, placesIn, placesOf}
 use Rattle.places.proofs.Reading.{length-places}
 use Rattle.envelope.specs.declared.application.Field.the-variants.{Bids}

@@ -1,7 +1,7 @@
 -- `places::internal::put_places` meets its contract. The loop's invariant: the first k places are written. Assumes nothing.
 use mathlib.Core.Path.{_≡_, ap₂}
 use borrow.Author.Needs.{needs}
-use Prim.Native.Nat.{ℕ, _+_, _*_, _-_, _≤_}
+use Prim.Native.Nat.{_+_, _*_, _-_, _≤_}
 use native.Mathlib.Omega.{arith}
 use denote.Ref.{now}
 use lib.ListN.{length, take}
@@ -12,8 +12,6 @@ use Rattle.places.specs.Bids.{placesText}
 use Rattle.places.proofs.Writing.{text-more}
 use Rattle.places.proofs.internal.put_places.Statement.{statement}
 use Rattle.places.proofs.internal.put_places.Tie as tie
-use Rattle.places.proofs.internal.put_places.Reads as reads
-use Rattle.places.proofs.internal.put_places.Lts as lts
 
 abbrev Inv-loop : tie.InvT-loop
 Inv-loop space₀ at rates amounts end₀ k₀ space end k =

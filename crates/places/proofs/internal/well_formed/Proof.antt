@@ -1,11 +1,10 @@
 -- `places::internal::well_formed` meets its contract. Assumes nothing.
-use mathlib.Core.Path.{_≡_, refl, sym, ap, _∙_}
-use mathlib.Core.Bool.{true}
-use Prim.Native.Nat.{ℕ, _+_, _*_, _≤_, _<_}
+use mathlib.Core.Path.{ap, _∙_}
+use Prim.Native.Nat.{_<_}
 use native.Mathlib.Omega.{arith}
 use denote.Ref.{now}
 use lib.Dec.{lit<}
-use lib.ListN.{length, take, drop, getD, length-drop}
+use lib.ListN.{take, drop, length-drop}
 use lib.Seq.{length-take-le, getD-take, getD-drop}
 use Rattle.digits.specs.Decimal.{allDigits, numberOf}
 use Rattle.digits.proofs.Reading.{number-below}

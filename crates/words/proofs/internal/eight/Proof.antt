@@ -1,14 +1,9 @@
 -- `words::internal::eight` meets its contract. Assumes nothing.
 use borrow.Author.Needs.{needs}
-use mathlib.Core.Path.{_≡_, refl, sym, ap, _∙_}
-use mathlib.Core.Bool.{true, false}
-use mathlib.Core.List.{List, [], _∷_, map}
-use Prim.Native.Nat.{ℕ, _+_, _*_, _-_, _≤_, _<_}
-use native.Mathlib.Omega.{arith}
+use mathlib.Core.Path.{ap, _∙_}
+use Prim.Native.Nat.{ℕ, _-_}
 use denote.Ref.{now}
-use lib.ListN.{length, take, drop, getD}
-use Rattle.digits.specs.Decimal.{allDigits, numberFrom}
-use Rattle.words.specs.Words.{allSmall, bytesOf, decimal, wordOf}
+use Rattle.words.specs.Words.{allSmall, bytesOf, decimal}
 use Rattle.words.proofs.Words.{eight-least, eight-bytes, small, same-number}
 use Rattle.words.proofs.internal.eight.Statement.{statement}
 use Rattle.words.proofs.internal.eight.Tie as tie

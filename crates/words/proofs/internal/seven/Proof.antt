@@ -1,13 +1,13 @@
 -- `words::internal::seven` meets its contract. Assumes nothing.
 use borrow.Author.Needs.{needs}
-use mathlib.Core.Path.{_≡_, refl, sym, ap, _∙_}
-use mathlib.Core.Bool.{true, false}
-use mathlib.Core.List.{List, [], _∷_, map}
-use Prim.Native.Nat.{ℕ, _+_, _*_, _-_, _≤_, _<_}
+use mathlib.Core.Path.{_≡_, ap, _∙_}
+use mathlib.Core.Bool.{true}
+use mathlib.Core.List.{List, _∷_, map}
+use Prim.Native.Nat.{ℕ, _-_, _≤_}
 use native.Mathlib.Omega.{arith}
 use denote.Ref.{now}
-use lib.ListN.{length, take, drop, getD}
-use Rattle.digits.specs.Decimal.{allDigits, numberFrom}
+use lib.ListN.{length, drop, getD}
+use Rattle.digits.specs.Decimal.{allDigits}
 use Rattle.words.specs.Words.{allSmall, bytesOf, decimal, wordOf}
 use lib.ListN.{length-drop}
 use Rattle.words.proofs.Words.{eight-least, eight-bytes, small, same-number, slash-zero, zero-first, zero-number}

@@ -1,10 +1,9 @@
 -- `words::internal::value` meets its contract: digits are added by pairs, fours and eights. Assumes nothing.
-use mathlib.Core.Path.{_≡_, sym, ap, _∙_}
-use Prim.Native.Nat.{ℕ, _+_, _*_, _/_, _≤_, _<_}
+use mathlib.Core.Path.{sym, ap, _∙_}
+use Prim.Native.Nat.{ℕ, _+_, _*_, _/_}
 use native.Mathlib.Omega.{arith}
 use lib.Bits.{and-le-r}
-use Rattle.digits.specs.Decimal.{allDigits, numberFrom}
-use Rattle.words.specs.Words.{allSmall, bytesOf, decimal, wordOf}
+use Rattle.words.specs.Words.{decimal}
 use Rattle.words.proofs.Adding.{Eight, eight-of, pairsOf, foursOf, eightOf, pairs-are, fours-are, eight-is, eight-max}
 use Rattle.words.proofs.internal.value.Statement.{statement}
 use Rattle.words.proofs.internal.value.Tie as tie

@@ -1,0 +1,49 @@
+-- What is proved of awards, marginal rate and rounds, besides demand 3 and the tables. Assumes nothing.
+use mathlib.Core.Path.{_≡_}
+use mathlib.Core.Bool.{true}
+use mathlib.Core.List.{List, List·Memᴰ}
+use mathlib.Core.Option.{none}
+use Prim.Native.Nat.{ℕ, suc, _+_, _*_, _-_, _/_, _%_, _≤_, _<_, min}
+use lib.ListN.{length, getD}
+use Rattle.rules.specs.Allotment.{Bid, noBid, filled, Offer, totalBetter, totalEqual, binaryLength, firstDigits, Division, divisionAt, share, awards, sum, marginalRate, totalIn, walk}
+
+-- the awards add up to the smaller of the amount offered and the bids in
+abbrev pub AwardsAddUp : Type 0
+AwardsAddUp = (o : Offer) (bs : List Bid) → sum (awards o bs) ≡ min (o .offered) (totalIn o bs)
+
+-- no award exceeds its bid, where all bids are above zero
+abbrev pub NoAwardAboveBid : Type 0
+NoAwardAboveBid =
+    (o : Offer) (bs : List Bid)
+    → ((b : Bid) → List·Memᴰ b bs → filled b ≡ true → 0 < b .amount)
+    → (k : ℕ)
+    → k < length bs
+    → getD (awards o bs) k 0 ≤ getD bs k noBid .amount
+
+-- the walk over rates, best first, with a running total, gives the marginal rate
+abbrev pub WalkGivesMarginalRate : Type 0
+WalkGivesMarginalRate = (o : Offer) (bs : List Bid) → walk o bs (suc (length bs)) none 0 ≡ marginalRate o bs
+
+-- 'its share is a times (Q − B), divided by E, rounded down'
+abbrev pub ShareRoundedDown : Type 0
+ShareRoundedDown = (o : Offer) (bs : List Bid) (r a : ℕ) → share o bs r a ≡ a * (o .offered - totalBetter o bs r) / totalEqual o bs r
+
+-- a round: quotient and remainder doubled, the next binary digit d of a taken in, the count one higher
+abbrev pub nextRound : ℕ → ℕ → ℕ → Division → Division
+nextRound d m e x =
+    record {
+      quotient = 2 * x .quotient + (2 * x .remainder + d * m) / e;
+      remainder = (2 * x .remainder + d * m) % e;
+      count = x .count + 1;
+    }
+
+-- the division at count k + 1 is one round after that at count k, and at count 0 there is nothing
+abbrev pub RoundByRound : Type 0
+RoundByRound =
+    (a m e k : ℕ)
+    → k < binaryLength a
+    → 0 < e
+    → divisionAt a m e (k + 1) ≡ nextRound (firstDigits a (k + 1) % 2) m e (divisionAt a m e k)
+
+abbrev pub StartsFromNothing : Type 0
+StartsFromNothing = (a m e : ℕ) → divisionAt a m e 0 ≡ record { quotient = 0; remainder = 0; count = 0 }
