@@ -163,7 +163,7 @@ module _ (t : Terms) (rs : List Reception) where
   finals-below (c ∷ codes) = omega (arith, total-append (finalBids c (map (submission t) rs)) (allFinalBids codes (map (submission t) rs)), final-below c, finals-below codes)
 
 -- what an accepted opening says: no condition holds, so that there are at most 64 codes
-next-condition : (n : ℕ) (b : Bool) (rest : List (ℕ × Bool)) → firstHolding ((n, b) ∷ rest) ≡ none → (b ≡ false) × (firstHolding rest ≡ none)
+pub next-condition : (n : ℕ) (b : Bool) (rest : List (ℕ × Bool)) → firstHolding ((n, b) ∷ rest) ≡ none → (b ≡ false) × (firstHolding rest ≡ none)
 unfolding firstHolding
 next-condition n false rest h = (refl, h)
 next-condition n true rest h = absurd (let z : _≡_ {A = ℕ} 0 1 = cc in omega arith)
