@@ -2,12 +2,32 @@
 pub mod internal;
 
 ghost use mathlib.Core.Path.{_≡_};
-ghost use Rattle.digits.specs.Decimal.{allDigits};
+ghost use Rattle.digits.specs.Decimal.{allDigits, isNumber, numberIn};
 
 // What a field of digits holds: its number, or none where a byte is no digit.
 pub enum Digits {
     Number(u64),
     None,
+}
+
+// Whether a field of digits has a number.
+pub fn has_number(d: Digits) -> bool
+    ensures { λ r. ⌜ r ≡ isNumber d ⌝ }
+{
+    match d {
+        Digits::Number(_) => true,
+        Digits::None => false,
+    }
+}
+
+// The number of a field of digits, 0 where it has none.
+pub fn number_of(d: Digits) -> u64
+    ensures { λ r. ⌜ r ≡ numberIn d ⌝ }
+{
+    match d {
+        Digits::Number(n) => n,
+        Digits::None => 0,
+    }
 }
 
 // Whether each byte is a digit. The loop has no branch, so that it runs on many bytes at once.

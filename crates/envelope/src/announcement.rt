@@ -5,6 +5,7 @@ use calendar::date_before;
 use digits::Digits;
 use digits::all_digits;
 use digits::internal::number;
+use digits::number_of;
 use layout::internal::contents;
 use places::Amount;
 use places::Rate;
@@ -188,10 +189,7 @@ fn number_at(s: &[u8], from: usize, to: usize) -> u64
     requires { ⌜ (from ≤ to) × (to ≤ length (now s)) × (to ≤ from + 19) ⌝ }
     ensures { λ r. ⌜ r ≡ partNumber from to (now (s .entry)) ⌝ }
 {
-    match number(&s[from..to]) {
-        Digits::Number(n) => n,
-        Digits::None => 0,
-    }
+    number_of(number(&s[from..to]))
 }
 
 // The five amounts, in their order.

@@ -1,6 +1,8 @@
 // What a host asks of a message. Fields are numbered from 0 in the order of the layout, places from
 // 0 to 9; a number out of range has none.
 use digits::Digits;
+use digits::has_number;
+use digits::number_of;
 use envelope::application::is_6g1;
 use envelope::internal::number_in;
 use layout::internal::contents;
@@ -81,24 +83,6 @@ fn digits_at(m: &[u8], field: u32) -> Digits
         return Digits::None;
     }
     Digits::None
-}
-
-fn has_number(d: Digits) -> bool
-    ensures { λ r. ⌜ r ≡ isNumber d ⌝ }
-{
-    match d {
-        Digits::Number(_) => true,
-        Digits::None => false,
-    }
-}
-
-fn number_of(d: Digits) -> u64
-    ensures { λ r. ⌜ r ≡ numberIn d ⌝ }
-{
-    match d {
-        Digits::Number(n) => n,
-        Digits::None => 0,
-    }
 }
 
 // 1 where the field has a number, else 0.

@@ -3,6 +3,8 @@
 use calendar::valid_date;
 use calendar::valid_time;
 use digits::Digits;
+use digits::has_number;
+use digits::number_of;
 use envelope::announcement::Announcement;
 use envelope::announcement::Characteristics;
 use envelope::announcement::Field;
@@ -20,7 +22,6 @@ ghost use mathlib.Core.Bool.{true};
 ghost use mathlib.Core.List.{List, []};
 ghost use Prim.Native.Nat.{ℕ, _<_};
 ghost use lib.ListN.{length};
-ghost use Rattle.digits.specs.Decimal.{isNumber, numberIn};
 ghost use Rattle.layout.specs.Fields.{readable};
 ghost use Rattle.envelope.specs.Announcement.{layout6G0};
 ghost use Rattle.rules.specs.Opening.{isDate, isTime, wellFormed, otherOrigin, isUnknown, impossible, badCodes, openingRefused, sideOf, termsOf, noTerms};
@@ -58,24 +59,6 @@ pub struct Opening {
     pub terms: Terms,
 }
 
-fn is_number(d: Digits) -> bool
-    ensures { λ r. ⌜ r ≡ isNumber d ⌝ }
-{
-    match d {
-        Digits::Number(_) => true,
-        Digits::None => false,
-    }
-}
-
-fn number_of(d: Digits) -> u64
-    ensures { λ r. ⌜ r ≡ numberIn d ⌝ }
-{
-    match d {
-        Digits::Number(n) => n,
-        Digits::None => 0,
-    }
-}
-
 // Whether a field is a date.
 pub fn is_date(d: Digits) -> bool
     ensures { λ r. ⌜ r ≡ isDate d ⌝ }
@@ -103,7 +86,7 @@ fn references_formed(r: References) -> bool
     let cro = r.cro;
     let date = r.date;
     let time = r.time;
-    is_number(recipient) & is_number(cro) & is_date(date) & is_time(time)
+    has_number(recipient) & has_number(cro) & is_date(date) & is_time(time)
 }
 
 fn dates_formed(a: Announcement) -> bool

@@ -1,6 +1,6 @@
 -- `envelope::announcement::number_at` meets its contract. Assumes nothing.
 use borrow.Author.Needs.{needs}
-use mathlib.Core.Path.{sym, ap, _∙_}
+use mathlib.Core.Path.{ap, _∙_}
 use Rattle.digits.specs.Decimal.{numberIn}
 use Rattle.envelope.specs.Parts.{partNumber}
 use Rattle.envelope.proofs.announcement.number_at.Statement.{statement}
@@ -18,19 +18,12 @@ part-number-end c = search needs
 number-requires : tie.Need-number-requires
 number-requires c κs = search needs
 
-enum-known-n : tie.Need-enum-known-n
-enum-known-n c = search needs
-
-enum-told : tie.Need-enum-told
-enum-told c = search needs
+number-of-requires : tie.Need-number-of-requires
+number-of-requires c κs = search needs
 
 returns : tie.Need-returns
 unfolding partNumber
-returns c = sym (ap numberIn (sym (c .before .before .before .number .ensures) ∙ c .before .n .given .1))
-
-returns-2 : tie.Need-returns-2
-unfolding partNumber
-returns-2 c = sym (ap numberIn (sym (c .before .before .number .ensures) ∙ c .enum-told .given .1))
+returns c = c .number-of .ensures ∙ ap numberIn (c .before .number .ensures)
 
 pub number-at-spec : {M : Type 1} → statement M
 number-at-spec =
@@ -40,7 +33,5 @@ number-at-spec =
     part-number-start
     part-number-end
     number-requires
-    enum-known-n
-    enum-told
-    returns
-    returns-2)
+    number-of-requires
+    returns)
