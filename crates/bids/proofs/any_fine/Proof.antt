@@ -1,0 +1,74 @@
+-- `bids::any_fine` meets its contract. The loop's invariant: what is tested and what is left are the whole. Assumes nothing.
+use borrow.Author.Needs.{needs}
+use mathlib.Core.Path.{_≡_, refl, sym, ap, _∙_}
+use mathlib.Core.Bool.{Bool, _||_}
+use Prim.Native.Nat.{_+_, _-_, _≤_}
+use native.Mathlib.Omega.{arith}
+use lib.ListN.{length, drop}
+use Rattle.rules.specs.Opening.{any}
+use Rattle.rules.specs.Receiving.{fineRate}
+use Rattle.bids.specs.Ten.{bidsFrom}
+use Rattle.bids.proofs.Ten.{length-bids, any-more, any-end}
+use Rattle.bids.proofs.any_fine.Statement.{statement}
+use Rattle.bids.proofs.any_fine.Tie as tie
+
+abbrev Inv-loop : tie.InvT-loop
+Inv-loop rates amounts found₀ k₀ found k = (k ≤ 10) × ((found || any fineRate (drop k (bidsFrom rates amounts))) ≡ any fineRate (bidsFrom rates amounts))
+
+abbrev μ-loop : tie.MeasureT-loop
+μ-loop rates amounts found₀ k₀ found k = 10 - k
+
+loop-holds : tie.Need-loop-holds Inv-loop μ-loop
+loop-holds c = (omega arith, refl)
+
+bid-at-requires : tie.Need-bid-at-requires Inv-loop μ-loop
+bid-at-requires c κs = omega arith
+
+is-fine-requires : tie.Need-is-fine-requires Inv-loop μ-loop
+is-fine-requires c κs = search needs
+
+add-k : tie.Need-add-k Inv-loop μ-loop
+add-k c = omega arith
+
+loop-less : tie.Need-loop-less Inv-loop μ-loop
+loop-less c = omega arith
+
+ten-rates : (c : tie.Start Inv-loop μ-loop) → length (c .args .rates) ≡ 10
+ten-rates c = search needs
+
+ten-amounts : (c : tie.Start Inv-loop μ-loop) → length (c .args .amounts) ≡ 10
+ten-amounts c = search needs
+
+ten : (c : tie.Start Inv-loop μ-loop) → length (bidsFrom (c .args .rates) (c .args .amounts)) ≡ 10
+ten c = length-bids 10 (c .args .rates) (c .args .amounts) (ten-rates c) (ten-amounts c)
+
+loop-again : tie.Need-loop-again Inv-loop μ-loop
+loop-again c =
+    let start = c .before .before .before .before in
+    let a = start .args in
+    let l = c .before .before .before .loop in
+    let bs = bidsFrom (a .rates) (a .amounts) in
+    let p = fineRate in
+    let e = c .is-fine .ensures ∙ ap p (c .before .bid-at .ensures) in
+    (omega arith, ap (λ (t : Bool). (l .found || t) || any p (drop (l .k + 1) bs)) e ∙ any-more p (l .found) bs (l .k) (omega (arith, ten start)) ∙ l .inv .1)
+
+returns : tie.Need-returns Inv-loop μ-loop
+returns c =
+    let start = c .before .before in
+    let a = start .args in
+    let l = c .before .loop in
+    sym (any-end fineRate (l .found) (bidsFrom (a .rates) (a .amounts)) (l .k) (omega (arith, ten start))) ∙ l .inv .1
+
+pub any-fine-spec : {M : Type 1} → statement M
+any-fine-spec =
+    tie.close
+    (tie.spec
+    Inv-loop
+    μ-loop
+    loop-holds
+    bid-at-requires
+    is-fine-requires
+    add-k
+    loop-less
+    loop-again
+    returns)

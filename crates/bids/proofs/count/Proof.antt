@@ -1,0 +1,81 @@
+-- `bids::count` meets its contract. The loop's invariant: what is counted and what is left are the whole. Assumes nothing.
+use borrow.Author.Needs.{needs}
+use mathlib.Core.Path.{_≡_, sym, ap, _∙_}
+use mathlib.Core.Bool.{Bool, cond}
+use Prim.Native.Nat.{_+_, _-_, _≤_}
+use native.Mathlib.Omega.{arith}
+use lib.ListN.{length, drop, getD}
+use Rattle.rules.specs.Allotment.{noBid, filled, keep}
+use Rattle.bids.specs.Ten.{bidsFrom}
+use Rattle.bids.proofs.Ten.{length-bids, one-at-most, count-more, count-end}
+use Rattle.bids.proofs.count.Statement.{statement}
+use Rattle.bids.proofs.count.Tie as tie
+
+abbrev Inv-loop : tie.InvT-loop
+Inv-loop rates amounts n₀ k₀ n k = (k ≤ 10) × (n ≤ k) × (n + length (keep filled (drop k (bidsFrom rates amounts))) ≡ length (keep filled (bidsFrom rates amounts)))
+
+abbrev μ-loop : tie.MeasureT-loop
+μ-loop rates amounts n₀ k₀ n k = 10 - k
+
+loop-holds : tie.Need-loop-holds Inv-loop μ-loop
+loop-holds c = (omega arith, omega arith, omega arith)
+
+bid-at-requires : tie.Need-bid-at-requires Inv-loop μ-loop
+bid-at-requires c κs = omega arith
+
+is-filled-requires : tie.Need-is-filled-requires Inv-loop μ-loop
+is-filled-requires c κs = search needs
+
+one-if-requires : tie.Need-one-if-requires Inv-loop μ-loop
+one-if-requires c κs = search needs
+
+add-n : tie.Need-add-n Inv-loop μ-loop
+add-n c = let b = simp (sym (c .one-if .ensures)) at (one-at-most (c .before .is-filled .result)) in omega arith
+
+add-k : tie.Need-add-k Inv-loop μ-loop
+add-k c = omega arith
+
+loop-less : tie.Need-loop-less Inv-loop μ-loop
+loop-less c = omega arith
+
+ten-rates : (c : tie.Start Inv-loop μ-loop) → length (c .args .rates) ≡ 10
+ten-rates c = search needs
+
+ten-amounts : (c : tie.Start Inv-loop μ-loop) → length (c .args .amounts) ≡ 10
+ten-amounts c = search needs
+
+ten : (c : tie.Start Inv-loop μ-loop) → length (bidsFrom (c .args .rates) (c .args .amounts)) ≡ 10
+ten c = length-bids 10 (c .args .rates) (c .args .amounts) (ten-rates c) (ten-amounts c)
+
+loop-again : tie.Need-loop-again Inv-loop μ-loop
+loop-again c =
+    let start = c .before .before .before .before .before in
+    let bs = bidsFrom (start .args .rates) (start .args .amounts) in
+    let l = c .before .before .before .before .loop in
+    let e : c .one-if .result ≡ cond (filled (getD bs (l .k) noBid)) 1 0 = c .one-if .ensures ∙ ap (λ (b : Bool). cond b 1 0) (c .before .is-filled .ensures ∙ ap filled (c .before .before .bid-at .ensures)) in
+    let small = one-at-most (filled (getD bs (l .k) noBid)) in
+    let more = count-more bs (l .k) (omega (arith, ten start)) in
+    (omega arith, omega arith, omega arith)
+
+returns : tie.Need-returns Inv-loop μ-loop
+returns c =
+    let start = c .before .before in
+    let bs = bidsFrom (start .args .rates) (start .args .amounts) in
+    let none = count-end bs (c .before .loop .k) (omega (arith, ten start)) in
+    omega arith
+
+pub count-spec : {M : Type 1} → statement M
+count-spec =
+    tie.close
+    (tie.spec
+    Inv-loop
+    μ-loop
+    loop-holds
+    bid-at-requires
+    is-filled-requires
+    one-if-requires
+    add-n
+    add-k
+    loop-less
+    loop-again
+    returns)

@@ -1,0 +1,71 @@
+-- `bids::has_gap` meets its contract. The loop's invariant: what is tested and what is left are the whole. Assumes nothing.
+use borrow.Author.Needs.{needs}
+use mathlib.Core.Path.{_≡_, refl, sym, ap, _∙_}
+use mathlib.Core.Bool.{Bool, _||_, _&&_, not}
+use Prim.Native.Nat.{_+_, _-_, _≤_}
+use native.Mathlib.Omega.{arith}
+use lib.ListN.{length, drop}
+use Rattle.rules.specs.Allotment.{filled}
+use Rattle.rules.specs.Receiving.{gap}
+use Rattle.bids.specs.Ten.{bidsFrom}
+use Rattle.bids.proofs.Ten.{length-bids, gapAfter, gap-more, gap-end}
+use Rattle.bids.proofs.has_gap.Statement.{statement}
+use Rattle.bids.proofs.has_gap.Tie as tie
+
+abbrev Inv-loop : tie.InvT-loop
+Inv-loop rates amounts found₀ ended₀ k₀ found ended k = (k ≤ 10) × ((found || gapAfter ended (drop k (bidsFrom rates amounts))) ≡ gap (bidsFrom rates amounts))
+
+abbrev μ-loop : tie.MeasureT-loop
+μ-loop rates amounts found₀ ended₀ k₀ found ended k = 10 - k
+
+loop-holds : tie.Need-loop-holds Inv-loop μ-loop
+loop-holds c = (omega arith, refl)
+
+bid-at-requires : tie.Need-bid-at-requires Inv-loop μ-loop
+bid-at-requires c κs = omega arith
+
+is-filled-requires : tie.Need-is-filled-requires Inv-loop μ-loop
+is-filled-requires c κs = search needs
+
+add-k : tie.Need-add-k Inv-loop μ-loop
+add-k c = omega arith
+
+loop-less : tie.Need-loop-less Inv-loop μ-loop
+loop-less c = omega arith
+
+ten-rates : (c : tie.Start Inv-loop μ-loop) → length (c .args .rates) ≡ 10
+ten-rates c = search needs
+
+ten-amounts : (c : tie.Start Inv-loop μ-loop) → length (c .args .amounts) ≡ 10
+ten-amounts c = search needs
+
+ten : (c : tie.Start Inv-loop μ-loop) → length (bidsFrom (c .args .rates) (c .args .amounts)) ≡ 10
+ten c = length-bids 10 (c .args .rates) (c .args .amounts) (ten-rates c) (ten-amounts c)
+
+loop-again : tie.Need-loop-again Inv-loop μ-loop
+loop-again c =
+    let start = c .before .before .before .before in
+    let bs = bidsFrom (start .args .rates) (start .args .amounts) in
+    let l = c .before .before .before .loop in
+    let e = c .is-filled .ensures ∙ ap filled (c .before .bid-at .ensures) in
+    (omega arith, ap (λ (b : Bool). (l .found || (l .ended && b)) || gapAfter (l .ended || not b) (drop (l .k + 1) bs)) e ∙ gap-more (l .found) (l .ended) bs (l .k) (omega (arith, ten start)) ∙ l .inv .1)
+
+returns : tie.Need-returns Inv-loop μ-loop
+returns c =
+    let start = c .before .before in
+    let l = c .before .loop in
+    sym (gap-end (l .found) (l .ended) (bidsFrom (start .args .rates) (start .args .amounts)) (l .k) (omega (arith, ten start))) ∙ l .inv .1
+
+pub has-gap-spec : {M : Type 1} → statement M
+has-gap-spec =
+    tie.close
+    (tie.spec
+    Inv-loop
+    μ-loop
+    loop-holds
+    bid-at-requires
+    is-filled-requires
+    add-k
+    loop-less
+    loop-again
+    returns)
