@@ -1,0 +1,5 @@
+pub mod Storing
+pub mod Empty
+pub mod Finding
+pub mod Joining
+pub mod Order

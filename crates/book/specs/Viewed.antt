@@ -1,0 +1,76 @@
+-- The arrays of a book as the entries of document 01, and what finding a code and holding a message mean for them. Assumes nothing.
+use mathlib.Core.Bool.{Bool, true, false, cond}
+use mathlib.Core.List.{List, [], _∷_, map}
+use mathlib.Core.Option.{Option, none, some}
+use Prim.Native.Nat.{ℕ, zero, suc, _*_}
+use lib.Dec.{eqb, ltb}
+use lib.ListN.{getD}
+use Rattle.places.specs.declared.Rate.{Rate}
+use Rattle.places.specs.declared.Amount.{Amount}
+use Rattle.rules.specs.Allotment.{Bid}
+use Rattle.rules.specs.Opening.{any}
+use Rattle.rules.specs.Receiving.{Submission, Entry, takes, hold}
+use Rattle.book.specs.declared.Book.{Book}
+use Rattle.book.specs.declared.Found.{Found}
+use Rattle.book.specs.declared.Found.the-variants.{At, Absent}
+
+abbrev pub noRate : Rate
+noRate = record { 0 = 0 }
+
+abbrev pub noAmount : Amount
+noAmount = record { 0 = 0 }
+
+-- d bids from index i on, of rates and amounts
+unfoldable pub bidsFrom : List Rate → List Amount → ℕ → ℕ → List Bid
+bidsFrom rates amounts i zero = []
+bidsFrom rates amounts i (suc d) = record { rate = getD rates i noRate .0; amount = getD amounts i noAmount .0 } ∷ bidsFrom rates amounts (suc i) d
+
+-- 'the reference time last accepted, or none'
+unfoldable pub heldAt : Book → ℕ → Option ℕ
+heldAt b i = cond (getD (b .has) i false) (some (getD (b .held) i 0)) none
+
+-- 'For each admitted code the book holds the reference time last accepted, or none, and ten bids.'
+unfoldable pub entryAt : Book → ℕ → Entry
+entryAt b i = record { code = getD (b .codes) i 0; held = heldAt b i; bids = bidsFrom (b .rates) (b .amounts) (10 * i) 10 }
+
+-- d entries from index i on
+unfoldable pub entriesFrom : Book → ℕ → ℕ → List Entry
+entriesFrom b i zero = []
+entriesFrom b i (suc d) = entryAt b i ∷ entriesFrom b (suc i) d
+
+unfoldable pub upTo64 : ℕ → ℕ
+upTo64 n = cond (ltb n 64) n 64
+
+-- the entries of a book
+unfoldable pub viewed : Book → List Entry
+viewed b = entriesFrom b 0 (upTo64 (b .n))
+
+-- where a code first stands, its entries counted from i on
+unfoldable pub findFrom : List Entry → ℕ → ℕ → Found
+findFrom [] c i = Absent
+findFrom (e ∷ es) c i = cond (eqb (e .code) c) (At i) (findFrom es c (suc i))
+
+-- the entry at an index holds a time and bids; past the last entry there is none
+unfoldable pub replaced : List Entry → ℕ → ℕ → List Bid → List Entry
+replaced [] i time bids = []
+replaced (e ∷ es) zero time bids = record { code = e .code; held = some time; bids = bids } ∷ es
+replaced (e ∷ es) (suc i) time bids = e ∷ replaced es i time bids
+
+-- the codes of entries
+unfoldable pub codesIn : List Entry → List ℕ
+codesIn [] = []
+codesIn (e ∷ es) = e .code ∷ codesIn es
+
+-- what the entry at an index holds; past the last entry there is none
+unfoldable pub heldIn : List Entry → ℕ → Option ℕ
+heldIn [] i = none
+heldIn (e ∷ es) zero = e .held
+heldIn (e ∷ es) (suc i) = heldIn es i
+
+-- a sound message of a code: its time and bids
+abbrev pub soundFrom : ℕ → ℕ → List Bid → Submission
+soundFrom c time bids = record { sound = true; code = c; time = time; bids = bids }
+
+-- whether some entry takes a message, and the entries after it
+abbrev pub accepted : Submission → List Entry → Bool × List Entry
+accepted s es = (any (takes s) es, map (hold s) es)

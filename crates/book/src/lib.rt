@@ -1,0 +1,143 @@
+// The book of a tender: what is held for each admitted code, in flat arrays.
+pub mod internal;
+
+use crate::internal::hold;
+use crate::internal::takes_at;
+use places::Amount;
+use places::Rate;
+ghost use mathlib.Core.Path.{_≡_};
+ghost use mathlib.Core.Bool.{true};
+ghost use Prim.Native.Nat.{_<_};
+ghost use lib.ListN.{take};
+ghost use Rattle.rules.specs.Opening.{rising};
+ghost use Rattle.rules.specs.Receiving.{newBook};
+ghost use Rattle.rules.specs.Calls.{bidsInBook, places640};
+ghost use Rattle.book.specs.Viewed.{upTo64, viewed, bidsFrom, findFrom, codesIn, soundFrom, accepted};
+
+// For each code the time last accepted, whether there is one, and ten places from ten times its index on.
+pub struct Book {
+    pub codes: [u32; 64],
+    pub n: usize,
+    pub held: [u32; 64],
+    pub has: [bool; 64],
+    pub rates: [Rate; 640],
+    pub amounts: [Amount; 640],
+}
+
+// Where a code stands in the book, or that it does not.
+pub enum Found {
+    At(usize),
+    Absent,
+}
+
+// Whether a message was taken, and the book after it.
+pub struct Accepted {
+    pub taken: bool,
+    pub book: Book,
+}
+
+// Rates and amounts of 640 places.
+pub struct Columns {
+    pub rates: [Rate; 640],
+    pub amounts: [Amount; 640],
+}
+
+// A number, or 64 where it is larger.
+fn up_to_64(n: usize) -> usize
+    ensures { λ r. ⌜ r ≡ upTo64 n ⌝ }
+{
+    if n < 64 { n } else { 64 }
+}
+
+// The book of a newly opened tender, with the first 64 codes and nothing held.
+pub fn new_book(codes: &[u32]) -> Book
+    ensures { λ r. ⌜ viewed r ≡ newBook (take 64 (now (codes .entry))) ⌝ }
+{
+    let n = up_to_64(codes.len());
+    let mut kept = [0u32; 64];
+    let mut i = 0;
+    while i < n {
+        kept[i] = codes[i];
+        i += 1;
+    }
+    Book {
+        codes: kept,
+        n,
+        held: [0u32; 64],
+        has: [false; 64],
+        rates: [Rate(0); 640],
+        amounts: [Amount(0); 640],
+    }
+}
+
+// A code as a number of 64 bits.
+fn wide(c: u32) -> u64
+    ensures { λ r. ⌜ r ≡ c ⌝ }
+{
+    c as u64
+}
+
+// The first place in the book where a code stands.
+pub fn find(b: Book, code: u64) -> Found
+    ensures { λ r. ⌜ r ≡ findFrom (viewed b) code 0 ⌝ }
+{
+    let n = up_to_64(b.n);
+    let mut i = 0;
+    while i < n {
+        let c = wide(b.codes[i]);
+        if c == code {
+            return Found::At(i);
+        }
+        i += 1;
+    }
+    Found::Absent
+}
+
+// A time as a number of 32 bits, which every time of a day is.
+fn short(time: u64) -> u32
+    ensures { λ r. ⌜ (time < 4294967296 → r ≡ time) ⌝ }
+{
+    if time < 4294967296 { time as u32 } else { 0 }
+}
+
+// Holds a sound message of a code if its time is after what is held for that code.
+pub fn accept(b: Book, code: u64, time: u64, rates: [Rate; 10], amounts: [Amount; 10]) -> Accepted
+    ensures { λ r. ⌜ (time < 4294967296 → rising (codesIn (viewed b)) ≡ true → (r .taken, viewed (r .book)) ≡ accepted (soundFrom code time (bidsFrom rates amounts 0 10)) (viewed b)) ⌝ }
+{
+    let held = short(time);
+    match find(b, code) {
+        Found::At(at) => {
+            if takes_at(b, at, held) {
+                Accepted {
+                    taken: true,
+                    book: hold(b, at, held, rates, amounts),
+                }
+            } else {
+                Accepted {
+                    taken: false,
+                    book: b,
+                }
+            }
+        }
+        Found::Absent => Accepted {
+            taken: false,
+            book: b,
+        },
+    }
+}
+
+// All places in book order, those past the last code zero.
+pub fn in_order(b: Book) -> Columns
+    ensures { λ r. ⌜ bidsFrom (r .rates) (r .amounts) 0 640 ≡ places640 (bidsInBook (viewed b)) ⌝ }
+{
+    let end = 10 * up_to_64(b.n);
+    let mut rates = [Rate(0); 640];
+    let mut amounts = [Amount(0); 640];
+    let mut i = 0;
+    while i < end {
+        rates[i] = b.rates[i];
+        amounts[i] = b.amounts[i];
+        i += 1;
+    }
+    Columns { rates, amounts }
+}

@@ -1,0 +1,37 @@
+-- The two groups in which the code collects errors: of the fields before the places, and of the ten places that it holds in columns. Assumes nothing.
+use mathlib.Core.Bool.{not, cond}
+use mathlib.Core.List.{List, [], _∷_, _++_}
+use Prim.Native.Nat.{ℕ}
+use Rattle.texts.specs.Texts.{ascii, sameText}
+use Rattle.digits.specs.Decimal.{isNumber}
+use Rattle.places.specs.Bids.{allFormed}
+use Rattle.places.specs.declared.Places.{Places}
+use Rattle.envelope.specs.declared.application.Field.the-variants.{MessageType, Recipient, Identifier}
+use Rattle.envelope.specs.declared.application.Fields.{Fields}
+use Rattle.envelope.specs.Application.{bytesOf}
+use Rattle.rules.specs.Opening as rules
+use Rattle.rules.specs.Opening.{isTime}
+use Rattle.rules.specs.Receiving.{Reception, Error, when, senderErrors, dateErrors, bidErrors}
+use Rattle.bids.specs.Ten.{bidsFrom}
+use Rattle.terms.specs.declared.Terms.{Terms}
+use Rattle.terms.specs.Viewed.{viewed}
+
+-- '6G6-901 a place malformed; if none is: 902 ..'; which codes are admitted is not asked
+unfoldable pub columnErrors : Terms → Places → List Error
+columnErrors t p = cond (allFormed (p .formed)) (bidErrors (viewed t []) (bidsFrom (p .rates) (p .amounts))) ((ascii "6G6", 901) ∷ [])
+
+-- '001-900 .. 6G0-303'
+unfoldable pub headErrors : rules.Terms → List ℕ → Fields → List Error
+headErrors t m f =
+    when (not (sameText (bytesOf MessageType m) (ascii "6G1"))) (ascii "001", 900)
+    ++ senderErrors (t .codes) (f .sender)
+    ++ when (not (sameText (bytesOf Recipient m) (ascii "01000"))) (ascii "050", 599)
+    ++ when (not (isNumber (f .cro))) (ascii "020", 521)
+    ++ dateErrors (t .execution) (f .date)
+    ++ when (not (isTime (f .time))) (ascii "601", 503)
+    ++ when (not (isNumber (f .check))) (ascii "010", 908)
+    ++ when (not (sameText (bytesOf Identifier m) (t .identifier))) (ascii "6G0", 303)
+
+-- a message received at a date and time, with space for a reply
+abbrev pub received : List ℕ → ℕ → ℕ → List ℕ → Reception
+received m day second space = record { message = m; date = day; time = second; space = space }

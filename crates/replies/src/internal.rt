@@ -1,0 +1,159 @@
+// Replies written straight from a message that was found readable into a space with room for them.
+use digits::internal::put_digits;
+use errors::Errors;
+use layout::internal::contents;
+use layout::internal::put_field;
+use layout::internal::put_head;
+use output::internal::put;
+use output::internal::put_byte;
+ghost use mathlib.Core.Path.{_≡_};
+ghost use mathlib.Core.Bool.{true};
+ghost use mathlib.Core.List.{_++_};
+ghost use Prim.Native.Nat.{_+_, _*_, _<_, _≤_, min};
+ghost use lib.ListN.{length, take, drop};
+ghost use Rattle.digits.specs.Decimal.{digits};
+ghost use Rattle.output.specs.Output.{Wrote};
+ghost use Rattle.layout.specs.Fields.{field, readable};
+ghost use Rattle.envelope.specs.declared.application.Field.the-variants.{Sender, Cro};
+ghost use Rattle.envelope.specs.Application.{layout6G1, bytesOf};
+ghost use Rattle.rules.specs.Replies.{errorText, errorTexts, shown, returnedMessage};
+ghost use Rattle.errors.specs.Listed.{table, idcIn, named, listed};
+ghost use Rattle.replies.specs.Texts.{rowIn, slashed, confirmationText};
+
+// The row of a code in the table of IDCs, the row past the last one where no row has it.
+fn row(code: u16) -> usize
+    ensures { λ r. ⌜ (r ≡ rowIn table code) × (r < 11) ⌝ }
+{
+    match code {
+        900 => 0,
+        309 => 1,
+        300 => 1,
+        599 => 2,
+        521 => 3,
+        502 => 4,
+        522 => 4,
+        503 => 5,
+        302 => 5,
+        908 => 6,
+        303 => 7,
+        901 => 8,
+        902 => 8,
+        903 => 8,
+        904 => 8,
+        905 => 8,
+        906 => 8,
+        907 => 8,
+        301 => 9,
+        _ => 10,
+    }
+}
+
+// Writes the IDC of a code.
+fn put_idc(space: &mut [u8], at: usize, code: u16) -> usize
+    requires { ⌜ at + 3 ≤ length (now space) ⌝ }
+    ensures { λ r. ⌜ Wrote (now (space .entry)) at (idcIn table code) (now (space .exit)) r × (r ≡ at + 3) ⌝ }
+{
+    let idcs: &[u8] = b"001040050020D316010106G06G66G5999";
+    let start = 3 * row(code);
+    put(space, at, &idcs[start..start + 3])
+}
+
+// Writes the text of one error.
+fn put_text(space: &mut [u8], at: usize, code: u16) -> usize
+    requires { ⌜ at + 9 ≤ length (now space) ⌝ }
+    ensures { λ r. ⌜ Wrote (now (space .entry)) at (errorText (named code)) (now (space .exit)) r × (r ≡ at + 9) ⌝ }
+{
+    let dash = put_idc(space, at, code);
+    let number = put(space, dash, b" - ");
+    put_digits(space, number, 3, code as u64)
+}
+
+// Writes the texts of the errors after the first, each after a slash.
+fn put_rest(space: &mut [u8], at: usize, e: Errors) -> usize
+    requires { ⌜ (0 < e .n) × (e .n ≤ 16) × (at + 10 * e .n ≤ length (now space) + 10) ⌝ }
+    ensures { λ r. ⌜ Wrote (now (space .entry)) at (slashed (drop 1 (take (e .n) (e .codes)))) (now (space .exit)) r ⌝ }
+{
+    let codes = e.codes;
+    let n = e.n;
+    let mut end = at;
+    let mut k = 1;
+    while k < n {
+        let start = put_byte(space, end, b'/');
+        end = put_text(space, start, codes[k]);
+        k += 1;
+    }
+    end
+}
+
+// Writes the texts of the errors, joined by slashes.
+fn put_texts(space: &mut [u8], at: usize, e: Errors) -> usize
+    requires { ⌜ (0 < e .n) × (e .n ≤ 16) × (at + 10 * e .n ≤ length (now space) + 1) ⌝ }
+    ensures { λ r. ⌜ Wrote (now (space .entry)) at (errorTexts (listed e)) (now (space .exit)) r ⌝ }
+{
+    let first = e.codes[0];
+    let rest = put_text(space, at, first);
+    put_rest(space, rest, e)
+}
+
+// The errors that a reply shows: with over five, the fifth is 999.
+fn shown(e: Errors) -> Errors
+    requires { ⌜ e .n ≤ 16 ⌝ }
+    ensures { λ r. ⌜ (listed r ≡ shown (listed e)) × (r .n ≡ min (e .n) 5) ⌝ }
+{
+    let n = e.n;
+    if n <= 5 {
+        return e;
+    }
+    let mut next = e;
+    next.codes[4] = 999;
+    next.n = 5;
+    next
+}
+
+// Writes a message and after it the two fields that say its errors.
+pub fn put_returned(space: &mut [u8], m: &[u8], e: Errors) -> usize
+    requires { ⌜ readable layout6G1 (now m) ≡ true ⌝ }
+    requires { ⌜ (1 ≤ e .n) × (e .n ≤ 16) × (418 ≤ length (now space)) ⌝ }
+    ensures { λ r. ⌜ Wrote (now (space .entry)) 0 (returnedMessage (now (m .entry)) (listed e)) (now (space .exit)) r ⌝ }
+{
+    let banner = put(space, 0, m);
+    let list = put_field(space, banner, 0x98, b"*** MESSAGGIO ERRATO ***");
+    let few = shown(e);
+    let n = few.n;
+    let start = put_head(space, list, 0x98, 10 * n - 1);
+    put_texts(space, start, few)
+}
+
+// Writes the sender and the CRO of a message as recipient and original CRO.
+fn put_origin(space: &mut [u8], at: usize, m: &[u8]) -> usize
+    requires { ⌜ readable layout6G1 (now m) ≡ true ⌝ }
+    requires { ⌜ at + 22 ≤ length (now space) ⌝ }
+    ensures { λ r. ⌜ Wrote (now (space .entry)) at (field 0x05 (bytesOf Sender (now (m .entry))) ++ field 0x22 (bytesOf Cro (now (m .entry)))) (now (space .exit)) r × (r ≡ at + 22) ⌝ }
+{
+    let sender = contents(m, 1);
+    let cro = contents(m, 3);
+    let original = put_field(space, at, 0x05, sender);
+    put_field(space, original, 0x22, cro)
+}
+
+// Writes the reception time.
+fn put_time(space: &mut [u8], at: usize, time: u64) -> usize
+    requires { ⌜ at + 9 ≤ length (now space) ⌝ }
+    ensures { λ r. ⌜ Wrote (now (space .entry)) at (field 0x60 (digits 6 time)) (now (space .exit)) r × (r ≡ at + 9) ⌝ }
+{
+    let start = put_head(space, at, 0x60, 6);
+    put_digits(space, start, 6, time)
+}
+
+// Writes the confirmation of a message.
+pub fn put_confirmation(space: &mut [u8], m: &[u8], identifier: &[u8], time: u64) -> usize
+    requires { ⌜ readable layout6G1 (now m) ≡ true ⌝ }
+    requires { ⌜ (length (now identifier) ≡ 11) × (59 ≤ length (now space)) ⌝ }
+    ensures { λ r. ⌜ Wrote (now (space .entry)) 0 (confirmationText (now (m .entry)) (now (identifier .entry)) time) (now (space .exit)) r × (r ≡ 59) ⌝ }
+{
+    let sender = put_field(space, 0, 0x01, b"6G2");
+    let origin = put_field(space, sender, 0x04, b"01000");
+    let reception = put_origin(space, origin, m);
+    let tail = put_time(space, reception, time);
+    put_field(space, tail, 0x70, identifier)
+}
