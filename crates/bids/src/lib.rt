@@ -54,10 +54,12 @@ fn rest(n: u64, step: u64) -> u64
 pub fn is_uneven(b: Bid, minimum: Amount, increment: Amount) -> bool
     ensures { λ r. ⌜ r ≡ unevenBid (minimum .0) (increment .0) (viewed b) ⌝ }
 {
-    if b.amount.0 < minimum.0 {
+    let amount = b.amount.0;
+    let least = minimum.0;
+    if amount < least {
         return false;
     }
-    rest(b.amount.0 - minimum.0, increment.0) != 0
+    rest(amount - least, increment.0) != 0
 }
 
 // Whether a filled place comes after a zero one.
