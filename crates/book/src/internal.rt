@@ -1,11 +1,16 @@
 // One code's place in the book: whether it takes a message, and what it holds after one.
+use crate::Accepted;
 use crate::Book;
+use crate::Found;
+use crate::find;
 use places::Amount;
 use places::Rate;
 ghost use mathlib.Core.Path.{_≡_};
+ghost use mathlib.Core.Bool.{true};
 ghost use Prim.Native.Nat.{_<_};
+ghost use Rattle.rules.specs.Opening.{rising};
 ghost use Rattle.rules.specs.Receiving.{isAfter};
-ghost use Rattle.book.specs.Viewed.{viewed, heldAt, bidsFrom, replaced};
+ghost use Rattle.book.specs.Viewed.{viewed, heldAt, bidsFrom, replaced, codesIn, soundFrom, accepted};
 
 // Whether nothing is held at an index, or a time before this one.
 pub fn takes_at(b: Book, at: usize, time: u32) -> bool
@@ -41,5 +46,41 @@ pub fn hold(b: Book, at: usize, time: u32, rates: [Rate; 10], amounts: [Amount; 
         has,
         rates: rs,
         amounts: xs,
+    }
+}
+
+// A time as a number of 32 bits, which every time of a day is.
+fn short(time: u64) -> u32
+    requires { ⌜ time < 4294967296 ⌝ }
+    ensures { λ r. ⌜ r ≡ time ⌝ }
+{
+    time as u32
+}
+
+// Holds a sound message of a code if its time is after what is held for that code.
+pub fn accept(b: Book, code: u64, time: u64, rates: [Rate; 10], amounts: [Amount; 10]) -> Accepted
+    requires { ⌜ time < 4294967296 ⌝ }
+    requires { ⌜ rising (codesIn (viewed b)) ≡ true ⌝ }
+    ensures { λ r. ⌜ (r .taken, viewed (r .book)) ≡ accepted (soundFrom code time (bidsFrom rates amounts 0 10)) (viewed b) ⌝ }
+{
+    let held = short(time);
+    match find(b, code) {
+        Found::At(at) => {
+            if takes_at(b, at, held) {
+                Accepted {
+                    taken: true,
+                    book: hold(b, at, held, rates, amounts),
+                }
+            } else {
+                Accepted {
+                    taken: false,
+                    book: b,
+                }
+            }
+        }
+        Found::Absent => Accepted {
+            taken: false,
+            book: b,
+        },
     }
 }

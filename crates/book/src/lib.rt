@@ -1,18 +1,13 @@
 // The book of a tender: what is held for each admitted code, in flat arrays.
 pub mod internal;
 
-use crate::internal::hold;
-use crate::internal::takes_at;
 use places::Amount;
 use places::Rate;
 ghost use mathlib.Core.Path.{_≡_};
-ghost use mathlib.Core.Bool.{true};
-ghost use Prim.Native.Nat.{_<_};
 ghost use lib.ListN.{take};
-ghost use Rattle.rules.specs.Opening.{rising};
 ghost use Rattle.rules.specs.Receiving.{newBook};
 ghost use Rattle.rules.specs.Calls.{bidsInBook, places640};
-ghost use Rattle.book.specs.Viewed.{upTo64, viewed, bidsFrom, findFrom, codesIn, soundFrom, accepted};
+ghost use Rattle.book.specs.Viewed.{upTo64, viewed, bidsFrom, findFrom};
 
 // For each code the time last accepted, whether there is one, and ten places from ten times its index on.
 pub struct Book {
@@ -91,39 +86,6 @@ pub fn find(b: Book, code: u64) -> Found
         i += 1;
     }
     Found::Absent
-}
-
-// A time as a number of 32 bits, which every time of a day is.
-fn short(time: u64) -> u32
-    ensures { λ r. ⌜ (time < 4294967296 → r ≡ time) ⌝ }
-{
-    if time < 4294967296 { time as u32 } else { 0 }
-}
-
-// Holds a sound message of a code if its time is after what is held for that code.
-pub fn accept(b: Book, code: u64, time: u64, rates: [Rate; 10], amounts: [Amount; 10]) -> Accepted
-    ensures { λ r. ⌜ (time < 4294967296 → rising (codesIn (viewed b)) ≡ true → (r .taken, viewed (r .book)) ≡ accepted (soundFrom code time (bidsFrom rates amounts 0 10)) (viewed b)) ⌝ }
-{
-    let held = short(time);
-    match find(b, code) {
-        Found::At(at) => {
-            if takes_at(b, at, held) {
-                Accepted {
-                    taken: true,
-                    book: hold(b, at, held, rates, amounts),
-                }
-            } else {
-                Accepted {
-                    taken: false,
-                    book: b,
-                }
-            }
-        }
-        Found::Absent => Accepted {
-            taken: false,
-            book: b,
-        },
-    }
 }
 
 // All places in book order, those past the last code zero.
