@@ -1,1 +1,2 @@
-pub mod Ten
+pub mod Columns
+pub mod Loops

@@ -11,7 +11,7 @@ ghost use lib.ListN.{length};
 ghost use Rattle.rules.specs.Allotment.{filled, keep};
 ghost use Rattle.rules.specs.Opening.{any};
 ghost use Rattle.rules.specs.Receiving.{gap, fineRate, smallBid, unevenBid, overMaximum};
-ghost use Rattle.bids.specs.Ten.{viewed, bidsFrom};
+ghost use Rattle.bids.specs.Columns.{viewed, bidsFrom};
 
 // A rate and an amount.
 pub struct Bid {
@@ -64,7 +64,7 @@ pub fn is_uneven(b: Bid, minimum: Amount, increment: Amount) -> bool
 
 // Whether a filled place comes after a zero one.
 pub fn has_gap(rates: [Rate; 10], amounts: [Amount; 10]) -> bool
-    ensures { λ r. ⌜ r ≡ gap (bidsFrom rates amounts) ⌝ }
+    ensures { λ r. ⌜ r ≡ gap (bidsFrom rates amounts 0 10) ⌝ }
 {
     let mut found = false;
     let mut ended = false;
@@ -90,7 +90,7 @@ fn one_if(b: bool) -> u64
 
 // How many places are filled.
 pub fn count(rates: [Rate; 10], amounts: [Amount; 10]) -> u64
-    ensures { λ r. ⌜ r ≡ length (keep filled (bidsFrom rates amounts)) ⌝ }
+    ensures { λ r. ⌜ r ≡ length (keep filled (bidsFrom rates amounts 0 10)) ⌝ }
 {
     let mut n = 0u64;
     let mut k = 0;
@@ -103,7 +103,7 @@ pub fn count(rates: [Rate; 10], amounts: [Amount; 10]) -> u64
 
 // Whether some rate is fine.
 pub fn any_fine(rates: [Rate; 10], amounts: [Amount; 10]) -> bool
-    ensures { λ r. ⌜ r ≡ any fineRate (bidsFrom rates amounts) ⌝ }
+    ensures { λ r. ⌜ r ≡ any fineRate (bidsFrom rates amounts 0 10) ⌝ }
 {
     let mut found = false;
     let mut k = 0;
@@ -116,7 +116,7 @@ pub fn any_fine(rates: [Rate; 10], amounts: [Amount; 10]) -> bool
 
 // Whether some filled place is small.
 pub fn any_small(rates: [Rate; 10], amounts: [Amount; 10], minimum: Amount) -> bool
-    ensures { λ r. ⌜ r ≡ any (smallBid (minimum .0)) (bidsFrom rates amounts) ⌝ }
+    ensures { λ r. ⌜ r ≡ any (smallBid (minimum .0)) (bidsFrom rates amounts 0 10) ⌝ }
 {
     let mut found = false;
     let mut k = 0;
@@ -134,7 +134,7 @@ pub fn any_uneven(
     minimum: Amount,
     increment: Amount,
 ) -> bool
-    ensures { λ r. ⌜ r ≡ any (unevenBid (minimum .0) (increment .0)) (bidsFrom rates amounts) ⌝ }
+    ensures { λ r. ⌜ r ≡ any (unevenBid (minimum .0) (increment .0)) (bidsFrom rates amounts 0 10) ⌝ }
 {
     let mut found = false;
     let mut k = 0;
@@ -146,7 +146,7 @@ pub fn any_uneven(
 }
 
 // n less an amount, and nothing where the amount is more.
-fn less(n: u64, amount: u64) -> u64
+pub fn less(n: u64, amount: u64) -> u64
     ensures { λ r. ⌜ r ≡ n - amount ⌝ }
 {
     if n < amount {
@@ -157,7 +157,7 @@ fn less(n: u64, amount: u64) -> u64
 
 // Whether the total is above a told maximum; what is left of it falls to zero, so that no sum can overflow.
 pub fn is_over(rates: [Rate; 10], amounts: [Amount; 10], maximum: Amount) -> bool
-    ensures { λ r. ⌜ r ≡ overMaximum (maximum .0) (bidsFrom rates amounts) ⌝ }
+    ensures { λ r. ⌜ r ≡ overMaximum (maximum .0) (bidsFrom rates amounts 0 10) ⌝ }
 {
     let mut over = false;
     let mut left = maximum.0;

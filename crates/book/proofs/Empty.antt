@@ -12,7 +12,8 @@ use borrow.Author.Tests.{ltb-true, ltb-false}
 use Rattle.rules.specs.Allotment.{noBid}
 use Rattle.rules.specs.Receiving.{newEntry, newBook}
 use Rattle.book.specs.declared.Book.{Book}
-use Rattle.book.specs.Viewed.{noRate, noAmount, bidsFrom, heldAt, entryAt, entriesFrom, upTo64, viewed}
+use Rattle.bids.specs.Columns.{noRate, noAmount, bidsFrom}
+use Rattle.book.specs.Viewed.{heldAt, entryAt, entriesFrom, upTo64, viewed}
 
 pub all-default : {A : Type 0} (n i : ℕ) (a : A) → getD (replicate n a) i a ≡ a
 all-default n i a = go (ltb i n) refl

@@ -1,4 +1,4 @@
--- The places of the arrays are the bids of the entries, in book order, and those of a message are its bids. Assumes nothing.
+-- The places of the arrays are the bids of the entries, in book order. Assumes nothing.
 use mathlib.Core.Path.{_≡_, refl, sym, ap, ap₂, _∙_}
 use mathlib.Core.List.{List, [], _∷_, _++_, map}
 use Prim.Native.Nat.{ℕ, zero, suc, _+_, _-_, _*_, _≤_, _<_}
@@ -8,24 +8,13 @@ use lib.ListN.{length, getD, take, drop, replicate, List·getD-append}
 use lib.Seq.{length-take-le, getD-take, getD-drop, getD-append-add}
 use Rattle.places.specs.declared.Rate.{Rate}
 use Rattle.places.specs.declared.Amount.{Amount}
-use Rattle.places.specs.declared.Place.{Place}
-use Rattle.places.specs.Bids.{placesIn}
 use Rattle.rules.specs.Allotment.{Bid, noBid}
-use Rattle.rules.specs.Receiving.{bidOf}
 use Rattle.rules.specs.Calls.{bidsInBook, places640}
+use Rattle.bids.proofs.Columns.{bids-add, length-bids}
 use Rattle.book.specs.declared.Book.{Book}
-use Rattle.book.specs.Viewed.{noRate, noAmount, bidsFrom, entryAt, entriesFrom, upTo64, viewed}
+use Rattle.bids.specs.Columns.{noRate, noAmount, bidsFrom}
+use Rattle.book.specs.Viewed.{entryAt, entriesFrom, upTo64, viewed}
 use Rattle.book.proofs.Empty.{all-default, upTo64-small}
-
-pub bids-add : (rs : List Rate) (xs : List Amount) (i d e : ℕ) → bidsFrom rs xs i (d + e) ≡ bidsFrom rs xs i d ++ bidsFrom rs xs (i + d) e
-unfolding bidsFrom
-bids-add rs xs i zero e = rw (zero-add, add-zero)
-bids-add rs xs i (suc d) e = rw (suc-add, add-suc, ← suc-add) (rw (bids-add rs xs (suc i) d e))
-
-pub length-bids : (rs : List Rate) (xs : List Amount) (i d : ℕ) → length (bidsFrom rs xs i d) ≡ d
-unfolding bidsFrom
-length-bids rs xs i zero = refl
-length-bids rs xs i (suc d) = ap suc (length-bids rs xs (suc i) d)
 
 bids-nothing : (rs : List Rate) (xs : List Amount) (i : ℕ) → bidsFrom rs xs i (10 * zero) ≡ []
 unfolding bidsFrom
@@ -50,31 +39,6 @@ bids-entries b i (suc d) =
 pub bids-viewed : (b : Book) → bidsInBook (viewed b) ≡ bidsFrom (b .rates) (b .amounts) 0 (10 * upTo64 (b .n))
 unfolding viewed
 bids-viewed b = bids-entries b 0 (upTo64 (b .n))
-
-bids-shifted : (r : Rate) (rs : List Rate) (x : Amount) (xs : List Amount) (i d : ℕ) → bidsFrom (r ∷ rs) (x ∷ xs) (suc i) d ≡ bidsFrom rs xs i d
-unfolding bidsFrom
-bids-shifted r rs x xs i zero = refl
-bids-shifted r rs x xs i (suc d) = ap (λ l. record { rate = getD rs i noRate .0; amount = getD xs i noAmount .0 } ∷ l) (bids-shifted r rs x xs (suc i) d)
-
--- places in columns are their bids
-pub bids-columns : (ps : List Place) → bidsFrom (map (λ (p : Place). p .rate) ps) (map (λ (p : Place). p .amount) ps) 0 (length ps) ≡ map bidOf ps
-unfolding bidsFrom
-bids-columns [] = refl
-bids-columns (p ∷ ps) =
-    ap (λ l. bidOf p ∷ l)
-    (bids-shifted (p .rate) (map (λ (q : Place). q .rate) ps) (p .amount) (map (λ (q : Place). q .amount) ps) 0 (length ps) ∙ bids-columns ps)
-
-length-places : (n : ℕ) (s : List ℕ) → length (placesIn n s) ≡ n
-unfolding placesIn
-length-places zero s = refl
-length-places (suc n) s = ap suc (length-places n (drop 24 s))
-
--- ten places read from a field are its bids
-pub bids-ten : (s : List ℕ)
-    → bidsFrom (map (λ (p : Place). p .rate) (placesIn 10 s)) (map (λ (p : Place). p .amount) (placesIn 10 s)) 0 10 ≡ map bidOf (placesIn 10 s)
-bids-ten s =
-    ap (bidsFrom (map (λ (p : Place). p .rate) (placesIn 10 s)) (map (λ (p : Place). p .amount) (placesIn 10 s)) 0) (sym (length-places 10 s))
-    ∙ bids-columns (placesIn 10 s)
 
 module _ {A : Type 0} (e : ℕ) (l : List A) (d : A) (h : e ≤ length l) where
   front-low : (z : List A) (j : ℕ) → j < e → getD (take e l ++ drop e z) j d ≡ getD l j d

@@ -15,7 +15,8 @@ use borrow.Author.Tests.{ltb-true, ltb-false}
 use Rattle.places.specs.declared.Rate.{Rate}
 use Rattle.places.specs.declared.Amount.{Amount}
 use Rattle.book.specs.declared.Book.{Book}
-use Rattle.book.specs.Viewed.{noRate, noAmount, bidsFrom, heldAt, entryAt, entriesFrom, upTo64, viewed, replaced}
+use Rattle.bids.specs.Columns.{noRate, noAmount, bidsFrom}
+use Rattle.book.specs.Viewed.{heldAt, entryAt, entriesFrom, upTo64, viewed, replaced}
 
 module _ {A : Type 0} where
   getD-sets-low : (l : List A) (i : ℕ) (vs : List A) (p : ℕ) (d : A) → p < i → getD (sets l i vs) p d ≡ getD l p d

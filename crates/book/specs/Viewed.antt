@@ -5,25 +5,13 @@ use mathlib.Core.Option.{Option, none, some}
 use Prim.Native.Nat.{ℕ, zero, suc, _*_}
 use lib.Dec.{eqb, ltb}
 use lib.ListN.{getD}
-use Rattle.places.specs.declared.Rate.{Rate}
-use Rattle.places.specs.declared.Amount.{Amount}
 use Rattle.rules.specs.Allotment.{Bid}
 use Rattle.rules.specs.Opening.{any}
+use Rattle.bids.specs.Columns.{bidsFrom}
 use Rattle.rules.specs.Receiving.{Submission, Entry, takes, hold}
 use Rattle.book.specs.declared.Book.{Book}
 use Rattle.book.specs.declared.Found.{Found}
 use Rattle.book.specs.declared.Found.the-variants.{At, Absent}
-
-abbrev pub noRate : Rate
-noRate = record { 0 = 0 }
-
-abbrev pub noAmount : Amount
-noAmount = record { 0 = 0 }
-
--- d bids from index i on, of rates and amounts
-unfoldable pub bidsFrom : List Rate → List Amount → ℕ → ℕ → List Bid
-bidsFrom rates amounts i zero = []
-bidsFrom rates amounts i (suc d) = record { rate = getD rates i noRate .0; amount = getD amounts i noAmount .0 } ∷ bidsFrom rates amounts (suc i) d
 
 -- 'the reference time last accepted, or none'
 unfoldable pub heldAt : Book → ℕ → Option ℕ

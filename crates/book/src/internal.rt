@@ -10,7 +10,8 @@ ghost use mathlib.Core.Bool.{true};
 ghost use Prim.Native.Nat.{_<_};
 ghost use Rattle.rules.specs.Opening.{rising};
 ghost use Rattle.rules.specs.Receiving.{isAfter};
-ghost use Rattle.book.specs.Viewed.{viewed, heldAt, bidsFrom, replaced, codesIn, soundFrom, accepted};
+ghost use Rattle.bids.specs.Columns.{bidsFrom};
+ghost use Rattle.book.specs.Viewed.{viewed, heldAt, replaced, codesIn, soundFrom, accepted};
 
 // Whether nothing is held at an index, or a time before this one.
 pub fn takes_at(b: Book, at: usize, time: u32) -> bool

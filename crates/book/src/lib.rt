@@ -7,7 +7,8 @@ ghost use mathlib.Core.Path.{_≡_};
 ghost use lib.ListN.{take};
 ghost use Rattle.rules.specs.Receiving.{newBook};
 ghost use Rattle.rules.specs.Calls.{bidsInBook, places640};
-ghost use Rattle.book.specs.Viewed.{upTo64, viewed, bidsFrom, findFrom};
+ghost use Rattle.bids.specs.Columns.{bidsFrom};
+ghost use Rattle.book.specs.Viewed.{upTo64, viewed, findFrom};
 
 // For each code the time last accepted, whether there is one, and ten places from ten times its index on.
 pub struct Book {

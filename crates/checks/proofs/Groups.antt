@@ -14,10 +14,11 @@ use Rattle.digits.specs.Decimal.{isNumber, numberIn}
 use Rattle.places.specs.Bids.{allFormed}
 use Rattle.places.specs.Bids
 use Rattle.places.specs.declared.Place.{Place}
-use Rattle.envelope.specs.Application.{fieldsOf}
+use Rattle.envelope.specs.declared.application.Field.the-variants.{Bids}
+use Rattle.envelope.specs.Application.{bytesOf, fieldsOf}
 use Rattle.rules.specs.Allotment.{Bid}
 use Rattle.rules.specs.Opening.{any}
-use Rattle.bids.specs.Ten.{bidsFrom}
+use Rattle.bids.proofs.Columns.{bids-ten}
 use Rattle.terms.specs.declared.Terms as declared
 use Rattle.terms.specs.Viewed.{viewed}
 use Rattle.checks.specs.Columns.{columnErrors}
@@ -61,11 +62,6 @@ unfolding any allFormed
 some-malformed [] = refl
 some-malformed (p ∷ ps) = rw (some-malformed ps) (not-both (p .formed) (allFormed (map (λ (p : Place). p .formed) ps)))
 
-bids-in-columns : (ps : List Place) → bidsFrom (map (λ (p : Place). p .rate) ps) (map (λ (p : Place). p .amount) ps) ≡ map bidOf ps
-unfolding bidsFrom
-bids-in-columns [] = refl
-bids-in-columns (p ∷ ps) = ap (λ (bs : List Bid). bidOf p ∷ bs) (bids-in-columns ps)
-
 turned : {A : Type 0} (b : Bool) (x y : A) → cond (not b) x y ≡ cond b y x
 turned true x y = refl
 turned false x y = refl
@@ -74,4 +70,4 @@ pub column-errors : (t : declared.Terms) (codes m : List ℕ) → columnErrors t
 unfolding columnErrors placeErrors bidErrors fieldsOf Bids.placesOf placesOf bidsOf
 column-errors t codes m =
     let ps = placesOf m in
-    rw (some-malformed ps, bids-in-columns ps) (sym (turned (allFormed (map (λ (p : Place). p .formed) ps)) _ _))
+    rw (some-malformed ps, bids-ten (bytesOf Bids m)) (sym (turned (allFormed (map (λ (p : Place). p .formed) ps)) _ _))

@@ -12,13 +12,13 @@ use Rattle.envelope.specs.Application.{bytesOf}
 use Rattle.rules.specs.Opening as rules
 use Rattle.rules.specs.Opening.{isTime}
 use Rattle.rules.specs.Receiving.{Reception, Error, when, senderErrors, dateErrors, bidErrors}
-use Rattle.bids.specs.Ten.{bidsFrom}
+use Rattle.bids.specs.Columns.{bidsFrom}
 use Rattle.terms.specs.declared.Terms.{Terms}
 use Rattle.terms.specs.Viewed.{viewed}
 
 -- '6G6-901 a place malformed; if none is: 902 ..'; which codes are admitted is not asked
 unfoldable pub columnErrors : Terms → Places → List Error
-columnErrors t p = cond (allFormed (p .formed)) (bidErrors (viewed t []) (bidsFrom (p .rates) (p .amounts))) ((ascii "6G6", 901) ∷ [])
+columnErrors t p = cond (allFormed (p .formed)) (bidErrors (viewed t []) (bidsFrom (p .rates) (p .amounts) 0 10)) ((ascii "6G6", 901) ∷ [])
 
 -- '001-900 .. 6G0-303'
 unfoldable pub headErrors : rules.Terms → List ℕ → Fields → List Error

@@ -6,13 +6,14 @@ use Prim.Native.Nat.{_+_, _-_, _≤_}
 use native.Mathlib.Omega.{arith}
 use lib.ListN.{length, drop, getD}
 use Rattle.rules.specs.Allotment.{noBid, filled, keep}
-use Rattle.bids.specs.Ten.{bidsFrom}
-use Rattle.bids.proofs.Ten.{length-bids, one-at-most, count-more, count-end}
+use Rattle.bids.specs.Columns.{bidsFrom}
+use Rattle.bids.proofs.Columns.{length-bids}
+use Rattle.bids.proofs.Loops.{one-at-most, count-more, count-end}
 use Rattle.bids.proofs.count.Statement.{statement}
 use Rattle.bids.proofs.count.Tie as tie
 
 abbrev Inv-loop : tie.InvT-loop
-Inv-loop rates amounts n₀ k₀ n k = (k ≤ 10) × (n ≤ k) × (n + length (keep filled (drop k (bidsFrom rates amounts))) ≡ length (keep filled (bidsFrom rates amounts)))
+Inv-loop rates amounts n₀ k₀ n k = (k ≤ 10) × (n ≤ k) × (n + length (keep filled (drop k (bidsFrom rates amounts 0 10))) ≡ length (keep filled (bidsFrom rates amounts 0 10)))
 
 abbrev μ-loop : tie.MeasureT-loop
 μ-loop rates amounts n₀ k₀ n k = 10 - k
@@ -38,19 +39,13 @@ add-k c = omega arith
 loop-less : tie.Need-loop-less Inv-loop μ-loop
 loop-less c = omega arith
 
-ten-rates : (c : tie.Start Inv-loop μ-loop) → length (c .args .rates) ≡ 10
-ten-rates c = search needs
-
-ten-amounts : (c : tie.Start Inv-loop μ-loop) → length (c .args .amounts) ≡ 10
-ten-amounts c = search needs
-
-ten : (c : tie.Start Inv-loop μ-loop) → length (bidsFrom (c .args .rates) (c .args .amounts)) ≡ 10
-ten c = length-bids 10 (c .args .rates) (c .args .amounts) (ten-rates c) (ten-amounts c)
+ten : (c : tie.Start Inv-loop μ-loop) → length (bidsFrom (c .args .rates) (c .args .amounts) 0 10) ≡ 10
+ten c = length-bids (c .args .rates) (c .args .amounts) 0 10
 
 loop-again : tie.Need-loop-again Inv-loop μ-loop
 loop-again c =
     let start = c .before .before .before .before .before in
-    let bs = bidsFrom (start .args .rates) (start .args .amounts) in
+    let bs = bidsFrom (start .args .rates) (start .args .amounts) 0 10 in
     let l = c .before .before .before .before .loop in
     let e : c .one-if .result ≡ cond (filled (getD bs (l .k) noBid)) 1 0 = c .one-if .ensures ∙ ap (λ (b : Bool). cond b 1 0) (c .before .is-filled .ensures ∙ ap filled (c .before .before .bid-at .ensures)) in
     let small = one-at-most (filled (getD bs (l .k) noBid)) in
@@ -60,7 +55,7 @@ loop-again c =
 returns : tie.Need-returns Inv-loop μ-loop
 returns c =
     let start = c .before .before in
-    let bs = bidsFrom (start .args .rates) (start .args .amounts) in
+    let bs = bidsFrom (start .args .rates) (start .args .amounts) 0 10 in
     let none = count-end bs (c .before .loop .k) (omega (arith, ten start)) in
     omega arith
 

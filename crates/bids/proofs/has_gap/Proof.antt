@@ -7,13 +7,14 @@ use native.Mathlib.Omega.{arith}
 use lib.ListN.{length, drop}
 use Rattle.rules.specs.Allotment.{filled}
 use Rattle.rules.specs.Receiving.{gap}
-use Rattle.bids.specs.Ten.{bidsFrom}
-use Rattle.bids.proofs.Ten.{length-bids, gapAfter, gap-more, gap-end}
+use Rattle.bids.specs.Columns.{bidsFrom}
+use Rattle.bids.proofs.Columns.{length-bids}
+use Rattle.bids.proofs.Loops.{gapAfter, gap-more, gap-end}
 use Rattle.bids.proofs.has_gap.Statement.{statement}
 use Rattle.bids.proofs.has_gap.Tie as tie
 
 abbrev Inv-loop : tie.InvT-loop
-Inv-loop rates amounts found₀ ended₀ k₀ found ended k = (k ≤ 10) × ((found || gapAfter ended (drop k (bidsFrom rates amounts))) ≡ gap (bidsFrom rates amounts))
+Inv-loop rates amounts found₀ ended₀ k₀ found ended k = (k ≤ 10) × ((found || gapAfter ended (drop k (bidsFrom rates amounts 0 10))) ≡ gap (bidsFrom rates amounts 0 10))
 
 abbrev μ-loop : tie.MeasureT-loop
 μ-loop rates amounts found₀ ended₀ k₀ found ended k = 10 - k
@@ -33,19 +34,13 @@ add-k c = omega arith
 loop-less : tie.Need-loop-less Inv-loop μ-loop
 loop-less c = omega arith
 
-ten-rates : (c : tie.Start Inv-loop μ-loop) → length (c .args .rates) ≡ 10
-ten-rates c = search needs
-
-ten-amounts : (c : tie.Start Inv-loop μ-loop) → length (c .args .amounts) ≡ 10
-ten-amounts c = search needs
-
-ten : (c : tie.Start Inv-loop μ-loop) → length (bidsFrom (c .args .rates) (c .args .amounts)) ≡ 10
-ten c = length-bids 10 (c .args .rates) (c .args .amounts) (ten-rates c) (ten-amounts c)
+ten : (c : tie.Start Inv-loop μ-loop) → length (bidsFrom (c .args .rates) (c .args .amounts) 0 10) ≡ 10
+ten c = length-bids (c .args .rates) (c .args .amounts) 0 10
 
 loop-again : tie.Need-loop-again Inv-loop μ-loop
 loop-again c =
     let start = c .before .before .before .before in
-    let bs = bidsFrom (start .args .rates) (start .args .amounts) in
+    let bs = bidsFrom (start .args .rates) (start .args .amounts) 0 10 in
     let l = c .before .before .before .loop in
     let e = c .is-filled .ensures ∙ ap filled (c .before .bid-at .ensures) in
     (omega arith, ap (λ (b : Bool). (l .found || (l .ended && b)) || gapAfter (l .ended || not b) (drop (l .k + 1) bs)) e ∙ gap-more (l .found) (l .ended) bs (l .k) (omega (arith, ten start)) ∙ l .inv .1)
@@ -54,7 +49,7 @@ returns : tie.Need-returns Inv-loop μ-loop
 returns c =
     let start = c .before .before in
     let l = c .before .loop in
-    sym (gap-end (l .found) (l .ended) (bidsFrom (start .args .rates) (start .args .amounts)) (l .k) (omega (arith, ten start))) ∙ l .inv .1
+    sym (gap-end (l .found) (l .ended) (bidsFrom (start .args .rates) (start .args .amounts) 0 10) (l .k) (omega (arith, ten start))) ∙ l .inv .1
 
 pub has-gap-spec : {M : Type 1} → statement M
 has-gap-spec =

@@ -8,13 +8,14 @@ use lib.Dec.{ltb, eqb}
 use lib.ListN.{length, drop}
 use Rattle.rules.specs.Allotment.{Bid, total}
 use Rattle.rules.specs.Receiving.{overMaximum}
-use Rattle.bids.specs.Ten.{bidsFrom}
-use Rattle.bids.proofs.Ten.{length-bids, above-more, above-end}
+use Rattle.bids.specs.Columns.{bidsFrom}
+use Rattle.bids.proofs.Columns.{length-bids}
+use Rattle.bids.proofs.Loops.{above-more, above-end}
 use Rattle.bids.proofs.is_over.Statement.{statement}
 use Rattle.bids.proofs.is_over.Tie as tie
 
 abbrev Inv-loop : tie.InvT-loop
-Inv-loop rates amounts maximum over₀ left₀ k₀ over left k = (k ≤ 10) × ((over || ltb left (total (drop k (bidsFrom rates amounts)))) ≡ ltb (maximum .0) (total (bidsFrom rates amounts)))
+Inv-loop rates amounts maximum over₀ left₀ k₀ over left k = (k ≤ 10) × ((over || ltb left (total (drop k (bidsFrom rates amounts 0 10)))) ≡ ltb (maximum .0) (total (bidsFrom rates amounts 0 10)))
 
 abbrev μ-loop : tie.MeasureT-loop
 μ-loop rates amounts maximum over₀ left₀ k₀ over left k = 10 - k
@@ -34,19 +35,13 @@ add-k c = omega arith
 loop-less : tie.Need-loop-less Inv-loop μ-loop
 loop-less c = omega arith
 
-ten-rates : (c : tie.Start Inv-loop μ-loop) → length (c .args .rates) ≡ 10
-ten-rates c = search needs
-
-ten-amounts : (c : tie.Start Inv-loop μ-loop) → length (c .args .amounts) ≡ 10
-ten-amounts c = search needs
-
-ten : (c : tie.Start Inv-loop μ-loop) → length (bidsFrom (c .args .rates) (c .args .amounts)) ≡ 10
-ten c = length-bids 10 (c .args .rates) (c .args .amounts) (ten-rates c) (ten-amounts c)
+ten : (c : tie.Start Inv-loop μ-loop) → length (bidsFrom (c .args .rates) (c .args .amounts) 0 10) ≡ 10
+ten c = length-bids (c .args .rates) (c .args .amounts) 0 10
 
 loop-again : tie.Need-loop-again Inv-loop μ-loop
 loop-again c =
     let start = c .before .before .before .before in
-    let bs = bidsFrom (start .args .rates) (start .args .amounts) in
+    let bs = bidsFrom (start .args .rates) (start .args .amounts) 0 10 in
     let l = c .before .before .before .loop in
     let rest = total (drop (l .k + 1) bs) in
     let e = ap (λ (b : Bid). b .amount) (c .before .bid-at .ensures) in (
@@ -63,7 +58,7 @@ returns c =
     let start = c .before .before .before in
     let a = start .args in
     let l = c .before .before .loop in
-    ap (λ (b : Bool). not (eqb (a .maximum .0) 0) && b) (sym (above-end (l .over) (l .left) (bidsFrom (a .rates) (a .amounts)) (l .k) (omega (arith, ten start))) ∙ l .inv .1)
+    ap (λ (b : Bool). not (eqb (a .maximum .0) 0) && b) (sym (above-end (l .over) (l .left) (bidsFrom (a .rates) (a .amounts) 0 10) (l .k) (omega (arith, ten start))) ∙ l .inv .1)
 
 pub is-over-spec : {M : Type 1} → statement M
 is-over-spec =

@@ -6,7 +6,8 @@ use native.Mathlib.Omega.{arith}
 use mathlib.Core.List.{_++_}
 use lib.ListN.{length, take, drop}
 use Rattle.laws.proofs.Arrays.{fill-more, length-mapped}
-use Rattle.book.specs.Viewed.{noRate, noAmount, upTo64}
+use Rattle.bids.specs.Columns.{noRate, noAmount}
+use Rattle.book.specs.Viewed.{upTo64}
 use Rattle.book.proofs.Empty.{upTo64-small}
 use Rattle.book.proofs.Order.{front-viewed}
 use Rattle.book.proofs.in_order.Statement.{statement}

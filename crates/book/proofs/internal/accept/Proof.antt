@@ -1,7 +1,8 @@
 -- `book::internal::accept` meets its contract. Assumes nothing.
 use mathlib.Core.Path.{sym, ap, refl, _∙_}
 use Prim.Native.Nat.{ℕ}
-use Rattle.book.specs.Viewed.{viewed, bidsFrom, soundFrom, accepted}
+use Rattle.bids.specs.Columns.{bidsFrom}
+use Rattle.book.specs.Viewed.{viewed, soundFrom, accepted}
 use Rattle.book.proofs.Joining.{found-below, accepted-found, accepted-late, accepted-absent}
 use borrow.Author.Needs.{needs}
 use Rattle.book.proofs.internal.accept.Statement.{statement}

@@ -11,7 +11,7 @@ use Rattle.rules.specs.Allotment.{filled, keep}
 use Rattle.rules.specs.Opening.{any}
 use Rattle.layout.specs.Fields.{oneOf}
 use Rattle.rules.specs.Receiving.{when, bidErrors, gap, fineRate, smallBid, unevenBid, overMaximum}
-use Rattle.bids.specs.Ten.{bidsFrom}
+use Rattle.bids.specs.Columns.{bidsFrom}
 use Rattle.errors.specs.Listed.{listed, named, table, idcIn}
 use Rattle.checks.proofs.Groups.{added, tested}
 use Rattle.checks.proofs.internal.bid_errors.Statement.{statement}
@@ -68,7 +68,7 @@ returns c =
     let l4 = listed (with4 .result) in
     let l5 = listed (with5 .result) in
     let l6 = listed (c .with6 .result) in
-    let bs = bidsFrom (c .before .before .before .before .before .before .before .before .before .before .before .before .before .args .rates) (c .before .before .before .before .before .before .before .before .before .before .before .before .before .args .amounts) in
+    let bs = bidsFrom (c .before .before .before .before .before .before .before .before .before .before .before .before .before .args .rates) (c .before .before .before .before .before .before .before .before .before .before .before .before .before .args .amounts) 0 10 in
     let t = c .before .before .before .before .before .before .before .before .before .before .before .before .before .args .t in
     let h1 : l1 ≡ e ++ when (gap bs) (ascii "6G6", 902) = tested e l1 _ _ _ (c .before .before .before .before .before .before .before .before .before .before .before .before .has-gap .ensures) (with1 .ensures .0) in
     let h2 : l2 ≡ l1 ++ when (ltb (t .most) (length (keep filled bs))) (ascii "6G6", 903) = tested l1 l2 _ _ _ (ap (λ (n : ℕ). ltb (c .before .before .before .before .before .before .before .before .before .before .before .before .before .args .t .most) n) (c .before .before .before .before .before .before .before .before .before .before .count .ensures)) (with2 .ensures .0) in

@@ -1,37 +1,17 @@
--- Laws of ten bids. Assumes nothing.
+-- Loops over bids: one more bid, and the end. Assumes nothing.
 use mathlib.Core.Path.{_≡_, refl, sym, ap, _∙_}
 use mathlib.Core.Bool.{Bool, true, false, _&&_, _||_, not, cond, or-assoc, or-false}
 use mathlib.Core.List.{List, [], _∷_}
-use Prim.Native.Nat.{ℕ, zero, suc, _+_, _-_, _≤_, _<_}
-use native.Mathlib.Nat.{not-suc-le-zero, le-of-suc-le-suc}
+use Prim.Native.Nat.{ℕ, suc, _+_, _-_, _≤_, _<_}
 use native.Mathlib.Numerals.{add-one}
 use native.Mathlib.Omega.{arith}
 use borrow.Author.Tests.{ltb-true, ltb-false, lt-ltb, le-ltb}
 use lib.Dec.{ltb}
 use lib.ListN.{length, drop, getD, drop-of-length-le}
 use lib.Seq.{drop-cons}
-use Rattle.places.specs.declared.Rate.{Rate}
-use Rattle.places.specs.declared.Amount.{Amount}
 use Rattle.rules.specs.Allotment.{Bid, noBid, filled, keep, total}
 use Rattle.rules.specs.Opening.{any}
 use Rattle.rules.specs.Receiving.{gap}
-use Rattle.bids.specs.Ten.{bidsFrom}
-
-pub length-bids : (n : ℕ) (rates : List Rate) (amounts : List Amount) → length rates ≡ n → length amounts ≡ n → length (bidsFrom rates amounts) ≡ n
-unfolding bidsFrom
-length-bids n [] amounts h k = h
-length-bids n (r ∷ rates) [] h k = absurd (let z : ⊥ = omega arith in z)
-length-bids zero (r ∷ rates) (a ∷ amounts) h k = absurd (let z : ⊥ = omega arith in z)
-length-bids (suc n) (r ∷ rates) (a ∷ amounts) h k = ap suc (length-bids n rates amounts (omega arith) (omega arith))
-
--- the bid at an index
-pub bid-is : (rates : List Rate) (amounts : List Amount) (k : ℕ) (d : Rate) (e : Amount) → k < length rates → k < length amounts
-    → _≡_ {A = Bid} (record { rate = getD rates k d .0; amount = getD amounts k e .0 }) (getD (bidsFrom rates amounts) k noBid)
-unfolding bidsFrom
-bid-is [] amounts k d e h l = absurd (not-suc-le-zero h)
-bid-is (r ∷ rates) [] k d e h l = absurd (not-suc-le-zero l)
-bid-is (r ∷ rates) (a ∷ amounts) zero d e h l = refl
-bid-is (r ∷ rates) (a ∷ amounts) (suc k) d e h l = bid-is rates amounts k d e (le-of-suc-le-suc h) (le-of-suc-le-suc l)
 
 -- the loop over a test of some bid: one more, and the end
 pub any-more : (p : Bid → Bool) (found : Bool) (bs : List Bid) (k : ℕ) → k < length bs → ((found || p (getD bs k noBid)) || any p (drop (k + 1) bs)) ≡ (found || any p (drop k bs))

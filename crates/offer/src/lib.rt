@@ -1,0 +1,72 @@
+// An offer, which of the bids in a book are in, and their totals by rate.
+pub mod internal;
+
+use bids::Bid;
+use bids::is_filled;
+use bids::less;
+use envelope::announcement::Side;
+use internal::bid_at;
+use places::Amount;
+use places::Rate;
+ghost use mathlib.Core.Path.{_≡_};
+ghost use lib.Dec.{ltb};
+ghost use Rattle.rules.specs.Allotment.{betterRate, isIn, isBetter, isEqual, total};
+ghost use Rattle.bids.specs.Columns.{bidsFrom};
+ghost use Rattle.bids.specs.Columns as columns;
+ghost use Rattle.offer.specs.Viewed.{viewed, mostBids};
+
+// What allotting takes from the announcement.
+pub struct Offer {
+    pub side: Side,
+    pub limit: Rate,
+    pub offered: Amount,
+}
+
+// Whether a rate is better than another.
+pub fn is_better(side: Side, rate: Rate, other: Rate) -> bool
+    ensures { λ r. ⌜ r ≡ betterRate side (rate .0) (other .0) ⌝ }
+{
+    match side {
+        Side::La => rate.0 < other.0,
+        Side::Lp => other.0 < rate.0,
+    }
+}
+
+// Whether a place holds a bid within the limit rate.
+pub fn is_in(o: Offer, b: Bid) -> bool
+    ensures { λ r. ⌜ r ≡ isIn (viewed o) (columns.viewed b) ⌝ }
+{
+    let side = o.side;
+    is_filled(b) & !is_better(side, o.limit, b.rate)
+}
+
+// Whether a bid in stands at a better rate than this one.
+pub fn stands_better(o: Offer, b: Bid, rate: Rate) -> bool
+    ensures { λ r. ⌜ r ≡ isBetter (viewed o) (rate .0) (columns.viewed b) ⌝ }
+{
+    let side = o.side;
+    is_in(o, b) & is_better(side, b.rate, rate)
+}
+
+// Whether a bid in stands at this rate.
+pub fn stands_equal(o: Offer, b: Bid, rate: Rate) -> bool
+    ensures { λ r. ⌜ r ≡ isEqual (viewed o) (rate .0) (columns.viewed b) ⌝ }
+{
+    is_in(o, b) & (b.rate.0 == rate.0)
+}
+
+// Whether the bids in the book exceed what condition 16 allows; what is left of that falls to zero, so that no sum can overflow.
+pub fn exceeds(rates: [Rate; 640], amounts: [Amount; 640]) -> bool
+    ensures { λ r. ⌜ r ≡ ltb mostBids (total (bidsFrom rates amounts 0 640)) ⌝ }
+{
+    let mut over = false;
+    let mut left = 999_999_999_999_999_999;
+    let mut i = 0;
+    while i < 640 {
+        let amount = bid_at(rates, amounts, i).amount.0;
+        over = over | (left < amount);
+        left = less(left, amount);
+        i += 1;
+    }
+    over
+}
