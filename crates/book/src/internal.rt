@@ -14,7 +14,7 @@ ghost use Rattle.bids.specs.Columns.{bidsFrom};
 ghost use Rattle.book.specs.Viewed.{viewed, heldAt, replaced, codesIn, soundFrom, accepted};
 
 // Whether nothing is held at an index, or a time before this one.
-pub fn takes_at(b: Book, at: usize, time: u32) -> bool
+pub fn takes_at(b: Book, at: usize, time: u64) -> bool
     requires { ⌜ at < 64 ⌝ }
     ensures { λ r. ⌜ r ≡ isAfter time (heldAt b at) ⌝ }
 {
@@ -22,7 +22,7 @@ pub fn takes_at(b: Book, at: usize, time: u32) -> bool
 }
 
 // The book that holds this time and these ten places at an index.
-pub fn hold(b: Book, at: usize, time: u32, rates: [Rate; 10], amounts: [Amount; 10]) -> Book
+pub fn hold(b: Book, at: usize, time: u64, rates: [Rate; 10], amounts: [Amount; 10]) -> Book
     requires { ⌜ at < 64 ⌝ }
     ensures { λ r. ⌜ viewed r ≡ replaced (viewed b) at time (bidsFrom rates amounts 0 10) ⌝ }
 {
@@ -50,27 +50,17 @@ pub fn hold(b: Book, at: usize, time: u32, rates: [Rate; 10], amounts: [Amount; 
     }
 }
 
-// A time as a number of 32 bits, which every time of a day is.
-fn short(time: u64) -> u32
-    requires { ⌜ time < 4294967296 ⌝ }
-    ensures { λ r. ⌜ r ≡ time ⌝ }
-{
-    time as u32
-}
-
 // Holds a sound message of a code if its time is after what is held for that code.
 pub fn accept(b: Book, code: u64, time: u64, rates: [Rate; 10], amounts: [Amount; 10]) -> Accepted
-    requires { ⌜ time < 4294967296 ⌝ }
     requires { ⌜ rising (codesIn (viewed b)) ≡ true ⌝ }
     ensures { λ r. ⌜ (r .taken, viewed (r .book)) ≡ accepted (soundFrom code time (bidsFrom rates amounts 0 10)) (viewed b) ⌝ }
 {
-    let held = short(time);
     match find(b, code) {
         Found::At(at) => {
-            if takes_at(b, at, held) {
+            if takes_at(b, at, time) {
                 Accepted {
                     taken: true,
-                    book: hold(b, at, held, rates, amounts),
+                    book: hold(b, at, time, rates, amounts),
                 }
             } else {
                 Accepted {

@@ -14,7 +14,7 @@ ghost use Rattle.book.specs.Viewed.{upTo64, viewed, findFrom};
 pub struct Book {
     pub codes: [u32; 64],
     pub n: usize,
-    pub held: [u32; 64],
+    pub held: [u64; 64],
     pub has: [bool; 64],
     pub rates: [Rate; 640],
     pub amounts: [Amount; 640],
@@ -59,7 +59,7 @@ pub fn new_book(codes: &[u32]) -> Book
     Book {
         codes: kept,
         n,
-        held: [0u32; 64],
+        held: [0u64; 64],
         has: [false; 64],
         rates: [Rate(0); 640],
         amounts: [Amount(0); 640],

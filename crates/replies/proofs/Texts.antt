@@ -18,20 +18,14 @@ use Rattle.texts.specs.Texts.{ascii}
 use Rattle.envelope.specs.declared.application.Field.the-variants.{MessageType, Sender, Recipient, Cro, Date, Time, Check, Identifier, Bids, Name}
 use Rattle.envelope.specs.Application.{layout6G1, bytesOf}
 use Rattle.envelope.proofs.Fields6G1.{length-field}
-use Rattle.rules.specs.Opening.{Terms}
-use Rattle.rules.specs.Receiving.{Reception, Error}
+use Rattle.rules.specs.Receiving.{Error}
 use Rattle.rules.specs.Replies.{confirmation, errorText, errorTexts, shown}
 use Rattle.errors.specs.Listed.{table, idcIn, named}
-use Rattle.replies.specs.Texts.{rowIn, slashed, confirmationText}
-
--- the text that the code writes is the rules' confirmation
-pub confirmation-is : (t : Terms) (r : Reception) → confirmationText (r .message) (t .identifier) (r .time) ≡ confirmation t r
-unfolding confirmationText confirmation
-confirmation-is t r = refl
+use Rattle.replies.specs.Texts.{rowIn, slashed}
 
 -- sender and CRO written together
-pub confirmation-parts : (m identifier : List ℕ) (time : ℕ) → field 0x01 (ascii "6G2") ++ field 0x04 (ascii "01000") ++ (field 0x05 (bytesOf Sender m) ++ field 0x22 (bytesOf Cro m)) ++ field 0x60 (digits 6 time) ++ field 0x70 identifier ≡ confirmationText m identifier time
-unfolding confirmationText
+pub confirmation-parts : (m identifier : List ℕ) (time : ℕ) → field 0x01 (ascii "6G2") ++ field 0x04 (ascii "01000") ++ (field 0x05 (bytesOf Sender m) ++ field 0x22 (bytesOf Cro m)) ++ field 0x60 (digits 6 time) ++ field 0x70 identifier ≡ confirmation identifier m time
+unfolding confirmation
 confirmation-parts m identifier time =
     ap (λ (x : List ℕ). x ++ field 0x60 (digits 6 time) ++ field 0x70 identifier) (sym (append-assoc (field 0x01 (ascii "6G2") ++ field 0x04 (ascii "01000")) (field 0x05 (bytesOf Sender m)) (field 0x22 (bytesOf Cro m))))
 

@@ -2,11 +2,8 @@
 use mathlib.Core.Bool.{cond}
 use mathlib.Core.List.{List, [], _∷_, _++_}
 use Prim.Native.Nat.{ℕ, suc}
-use Rattle.digits.specs.Decimal.{digits}
-use Rattle.layout.specs.Fields.{field, oneOf}
+use Rattle.layout.specs.Fields.{oneOf}
 use Rattle.texts.specs.Texts.{ascii}
-use Rattle.envelope.specs.declared.application.Field.the-variants.{Sender, Cro}
-use Rattle.envelope.specs.Application.{bytesOf}
 use Rattle.rules.specs.Replies.{errorText}
 use Rattle.errors.specs.Listed.{named}
 
@@ -19,13 +16,3 @@ rowIn (row ∷ rows) code = cond (oneOf (row .0) code) 0 (suc (rowIn rows code))
 unfoldable pub slashed : List ℕ → List ℕ
 slashed [] = []
 slashed (code ∷ codes) = (ascii "/" ++ errorText (named code)) ++ slashed codes
-
--- the rules' confirmation, from the message, the identifier of the terms and the reception time
-unfoldable pub confirmationText : List ℕ → List ℕ → ℕ → List ℕ
-confirmationText m identifier time =
-    field 0x01 (ascii "6G2")
-    ++ field 0x04 (ascii "01000")
-    ++ field 0x05 (bytesOf Sender m)
-    ++ field 0x22 (bytesOf Cro m)
-    ++ field 0x60 (digits 6 time)
-    ++ field 0x70 identifier

@@ -16,9 +16,9 @@ ghost use Rattle.output.specs.Output.{Wrote};
 ghost use Rattle.layout.specs.Fields.{field, readable};
 ghost use Rattle.envelope.specs.declared.application.Field.the-variants.{Sender, Cro};
 ghost use Rattle.envelope.specs.Application.{layout6G1, bytesOf};
-ghost use Rattle.rules.specs.Replies.{errorText, errorTexts, shown, returnedMessage};
+ghost use Rattle.rules.specs.Replies.{confirmation, errorText, errorTexts, shown, returnedMessage};
 ghost use Rattle.errors.specs.Listed.{table, idcIn, named, listed};
-ghost use Rattle.replies.specs.Texts.{rowIn, slashed, confirmationText};
+ghost use Rattle.replies.specs.Texts.{rowIn, slashed};
 
 // The row of a code in the table of IDCs, the row past the last one where no row has it.
 fn row(code: u16) -> usize
@@ -149,7 +149,7 @@ fn put_time(space: &mut [u8], at: usize, time: u64) -> usize
 pub fn put_confirmation(space: &mut [u8], m: &[u8], identifier: &[u8], time: u64) -> usize
     requires { ⌜ readable layout6G1 (now m) ≡ true ⌝ }
     requires { ⌜ (length (now identifier) ≡ 11) × (59 ≤ length (now space)) ⌝ }
-    ensures { λ r. ⌜ Wrote (now (space .entry)) 0 (confirmationText (now (m .entry)) (now (identifier .entry)) time) (now (space .exit)) r × (r ≡ 59) ⌝ }
+    ensures { λ r. ⌜ Wrote (now (space .entry)) 0 (confirmation (now (identifier .entry)) (now (m .entry)) time) (now (space .exit)) r × (r ≡ 59) ⌝ }
 {
     let sender = put_field(space, 0, 0x01, b"6G2");
     let origin = put_field(space, sender, 0x04, b"01000");

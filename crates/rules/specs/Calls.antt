@@ -97,9 +97,9 @@ inSpace reply space = reply ++ drop (length reply) space
 -- 'An accepted message gets a confirmation; one with errors gets RE01 and changes nothing in the tender.'
 unfoldable pub answerWith : List Error → Tender → Reception → Answer × Tender × List ℕ
 answerWith [] t r = (
-  confirmed (length (confirmation (t .terms) r)),
+  confirmed (length (confirmation (t .terms .identifier) (r .message) (r .time))),
   record { terms = t .terms; state = t .state; book = map (hold (submission (t .terms) r)) (t .book) },
-  inSpace (confirmation (t .terms) r) (r .space),
+  inSpace (confirmation (t .terms .identifier) (r .message) (r .time)) (r .space),
 )
 answerWith (e ∷ es) t r = (
   returned (e ∷ es) (length (returnedMessage (r .message) (e ∷ es))),

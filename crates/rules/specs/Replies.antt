@@ -9,18 +9,17 @@ use Rattle.layout.specs.Fields.{field}
 use Rattle.texts.specs.Texts.{ascii}
 use Rattle.envelope.specs.declared.application.Field.the-variants.{Sender, Cro}
 use Rattle.envelope.specs.Application.{bytesOf}
-use Rattle.rules.specs.Opening.{Terms}
-use Rattle.rules.specs.Receiving.{Reception, Error}
+use Rattle.rules.specs.Receiving.{Error}
 
 -- 'A confirmation has type `6G2`, 040 `01000`, 050 the sender, 022 original CRO (22, 11), 601 reception time, 6G0'
-unfoldable pub confirmation : Terms → Reception → List ℕ
-confirmation t r =
+unfoldable pub confirmation : List ℕ → List ℕ → ℕ → List ℕ
+confirmation identifier m time =
     field 0x01 (ascii "6G2")
     ++ field 0x04 (ascii "01000")
-    ++ field 0x05 (bytesOf Sender (r .message))
-    ++ field 0x22 (bytesOf Cro (r .message))
-    ++ field 0x60 (digits 6 (r .time))
-    ++ field 0x70 (t .identifier)
+    ++ field 0x05 (bytesOf Sender m)
+    ++ field 0x22 (bytesOf Cro m)
+    ++ field 0x60 (digits 6 time)
+    ++ field 0x70 identifier
 
 -- '`IDC - code`'
 unfoldable pub errorText : Error → List ℕ

@@ -1,15 +1,11 @@
 -- `book::internal::accept` meets its contract. Assumes nothing.
-use mathlib.Core.Path.{sym, ap, refl, _∙_}
-use Prim.Native.Nat.{ℕ}
+use mathlib.Core.Path.{sym, refl, _∙_}
 use Rattle.bids.specs.Columns.{bidsFrom}
-use Rattle.book.specs.Viewed.{viewed, soundFrom, accepted}
+use Rattle.book.specs.Viewed.{viewed, soundFrom}
 use Rattle.book.proofs.Joining.{found-below, accepted-found, accepted-late, accepted-absent}
 use borrow.Author.Needs.{needs}
 use Rattle.book.proofs.internal.accept.Statement.{statement}
 use Rattle.book.proofs.internal.accept.Tie as tie
-
-short-requires : tie.Need-short-requires
-short-requires c κs = search needs
 
 find-requires : tie.Need-find-requires
 find-requires c κs = search needs
@@ -32,33 +28,30 @@ returns : tie.Need-returns
 returns c =
     let m = c .before .before .before .before in
     let n = m .before .before in
-    let a = n .before .before .args in
+    let a = n .before .args in
     let bids = bidsFrom (a .rates) (a .amounts) 0 10 in
-    let r = n .before .before .pre .1 in
-    accepted-found (a .b) (soundFrom (a .code) (n .before .short .result) bids) (m .at .given .0 .0) r refl (sym (n .find .ensures) ∙ m .at .given .1) (viewed (c .hold .result)) (sym (c .before .before .takes-at .ensures) ∙ c .before .if1 .taken) (c .hold .ensures)
-    ∙ ap (λ (t : ℕ). accepted (soundFrom (a .code) t bids) (viewed (a .b))) (n .before .short .ensures)
+    let r = n .before .pre in
+    accepted-found (a .b) (soundFrom (a .code) (a .time) bids) (m .at .given .0 .0) r refl (sym (n .find .ensures) ∙ m .at .given .1) (viewed (c .hold .result)) (sym (c .before .before .takes-at .ensures) ∙ c .before .if1 .taken) (c .hold .ensures)
 
 returns-2 : tie.Need-returns-2
 returns-2 c =
     let m = c .before .before .before in
     let n = m .before .before in
-    let a = n .before .before .args in
+    let a = n .before .args in
     let bids = bidsFrom (a .rates) (a .amounts) 0 10 in
-    let r = n .before .before .pre .1 in
-    accepted-late (a .b) (soundFrom (a .code) (n .before .short .result) bids) (m .at .given .0 .0) r refl (sym (n .find .ensures) ∙ m .at .given .1) (sym (c .before .takes-at .ensures) ∙ c .if1 .left)
-    ∙ ap (λ (t : ℕ). accepted (soundFrom (a .code) t bids) (viewed (a .b))) (n .before .short .ensures)
+    let r = n .before .pre in
+    accepted-late (a .b) (soundFrom (a .code) (a .time) bids) (m .at .given .0 .0) r refl (sym (n .find .ensures) ∙ m .at .given .1) (sym (c .before .takes-at .ensures) ∙ c .if1 .left)
 
 returns-3 : tie.Need-returns-3
 returns-3 c =
     let n = c .before .before in
-    let a = n .before .before .args in
+    let a = n .before .args in
     accepted-absent (a .b) (soundFrom (a .code) (a .time) (bidsFrom (a .rates) (a .amounts) 0 10)) (sym (n .find .ensures) ∙ c .enum-told .given .1)
 
 pub accept-spec : {M : Type 1} → statement M
 accept-spec =
     tie.close
     (tie.spec
-    short-requires
     find-requires
     enum-known-at
     takes-at-requires
