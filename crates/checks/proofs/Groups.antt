@@ -16,13 +16,12 @@ use Rattle.places.specs.Bids
 use Rattle.places.specs.declared.Place.{Place}
 use Rattle.envelope.specs.declared.application.Field.the-variants.{Bids}
 use Rattle.envelope.specs.Application.{bytesOf, fieldsOf}
-use Rattle.rules.specs.Allotment.{Bid}
 use Rattle.rules.specs.Opening.{any}
 use Rattle.bids.proofs.Columns.{bids-ten}
 use Rattle.terms.specs.declared.Terms as declared
 use Rattle.terms.specs.Viewed.{viewed}
 use Rattle.checks.specs.Columns.{columnErrors}
-use Rattle.rules.specs.Receiving.{Error, when, senderErrors, placesOf, bidOf, bidsOf, bidErrors, placeErrors}
+use Rattle.rules.specs.Receiving.{Error, when, senderErrors, placesOf, bidsOf, bidErrors, placeErrors}
 
 -- errors added, and more added to those, are added together
 pub added : (before between after es fs : List Error) → between ≡ before ++ es → after ≡ between ++ fs → after ≡ before ++ (es ++ fs)

@@ -21,7 +21,7 @@ use Rattle.envelope.specs.Application.{layout6G1, bytesOf}
 use Rattle.rules.specs.Allotment.{Bid, noBid, filled, Offer, isIn, keep, total, awards, sum, totalIn}
 use Rattle.rules.specs.Opening.{Terms, any, notAnnouncement, otherOrigin, malformedAnnouncement, unknownType, impossibleNumbers, datesDisordered, badCodes, rising, openingRefused, termsOf, offerOf}
 use Rattle.rules.specs.Receiving.{Reception, placesOf, bidOf, bidsOf, Error, when, errors, isEmpty, isSound, Submission, submission, Entry, newBook, isAfter, isFrom, takes, hold, returnedErrors}
-use Rattle.rules.specs.Calls.{Open, Closed, Tender, inState, openTender, isRevoked, isOver, clockInvalid, spaceShort, beforeCutOff, isOpen, isAnnounced, bidsInBook, bidsExceed, receivingRefused, answerWith, answerUnless, receive, closingRefused, close, allottingRefused, places640, Allotted, allotment, allot}
+use Rattle.rules.specs.Calls.{Open, Closed, Tender, inState, openTender, isRevoked, isOver, clockInvalid, spaceShort, beforeCutOff, isOpen, isAnnounced, bidsInBook, bidsExceed, receivingRefused, answerWith, bookAfter, answerUnless, receive, closingRefused, close, allottingRefused, places640, Allotted, allotment, allot}
 use Rattle.rules.specs.ArrivalOrder.{receiveAll, EnoughSpace, NoConflict, Rearranged, PastCutOff, afterReceptions, afterClosing, latest, bidsOfLatest, finalBids, allFinalBids, finalBook, Settled, ArrivalOrder, AnyLatest}
 use Rattle.rules.proofs.Kept.{mem-keep}
 use Rattle.rules.proofs.Sum.{awards-sum}
@@ -68,7 +68,7 @@ returned-empty t b r false y e f = ap isEmpty (rw e refl) ∙ e
 
 -- the tender after an answer
 answer-tender : (es : List Error) (t : Terms) (b : List Entry) (r : Reception) → answerWith es (openWith t b) r .1 ≡ cond (isEmpty es) (openWith t (map (hold (submission t r)) b)) (openWith t b)
-unfolding answerWith isEmpty
+unfolding answerWith bookAfter isEmpty
 answer-tender [] t b r = refl
 answer-tender (e ∷ es) t b r = refl
 

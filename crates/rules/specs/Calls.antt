@@ -94,17 +94,25 @@ pub data Answer : Type 0 where
 abbrev pub inSpace : List ℕ → List ℕ → List ℕ
 inSpace reply space = reply ++ drop (length reply) space
 
--- 'An accepted message gets a confirmation; one with errors gets RE01 and changes nothing in the tender.'
+-- 'An accepted message gets a confirmation; one with errors gets RE01'
+unfoldable pub reply : List Error → List ℕ → List ℕ → ℕ → List ℕ
+reply [] identifier m time = confirmation identifier m time
+reply (e ∷ es) identifier m time = returnedMessage m (e ∷ es)
+
+-- '.. and changes nothing in the tender'
+unfoldable pub bookAfter : List Error → Terms → List Entry → Reception → List Entry
+bookAfter [] t book r = map (hold (submission t r)) book
+bookAfter (e ∷ es) t book r = book
+
+unfoldable pub answerTo : List Error → ℕ → Answer
+answerTo [] n = confirmed n
+answerTo (e ∷ es) n = returned (e ∷ es) n
+
 unfoldable pub answerWith : List Error → Tender → Reception → Answer × Tender × List ℕ
-answerWith [] t r = (
-  confirmed (length (confirmation (t .terms .identifier) (r .message) (r .time))),
-  record { terms = t .terms; state = t .state; book = map (hold (submission (t .terms) r)) (t .book) },
-  inSpace (confirmation (t .terms .identifier) (r .message) (r .time)) (r .space),
-)
-answerWith (e ∷ es) t r = (
-  returned (e ∷ es) (length (returnedMessage (r .message) (e ∷ es))),
-  t,
-  inSpace (returnedMessage (r .message) (e ∷ es)) (r .space),
+answerWith es t r = (
+  answerTo es (length (reply es (t .terms .identifier) (r .message) (r .time))),
+  record { terms = t .terms; state = t .state; book = bookAfter es (t .terms) (t .book) r },
+  inSpace (reply es (t .terms .identifier) (r .message) (r .time)) (r .space),
 )
 
 unfoldable pub answerUnless : Option ℕ → Tender → Reception → Answer × Tender × List ℕ

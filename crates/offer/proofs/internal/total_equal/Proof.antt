@@ -1,8 +1,8 @@
 -- `offer::internal::total_equal` meets its contract: the sum is the total over the bids passed. Assumes nothing.
 use borrow.Author.Needs.{needs}
-use mathlib.Core.Path.{_≡_, refl, sym, ap, _∙_}
+use mathlib.Core.Path.{_≡_, refl, ap, _∙_}
 use mathlib.Core.Bool.{Bool, cond}
-use Prim.Native.Nat.{ℕ, _+_, _-_, _≤_}
+use Prim.Native.Nat.{ℕ, _-_, _≤_}
 use native.Mathlib.Omega.{arith}
 use Rattle.rules.specs.Allotment.{Bid, keep, total, isEqual, totalEqual}
 use Rattle.bids.specs.Columns.{bidAt, bidsFrom}

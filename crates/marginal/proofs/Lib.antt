@@ -1,0 +1,4 @@
+pub mod Sums
+pub mod Ranks
+pub mod Storing
+pub mod Running

@@ -1,0 +1,36 @@
+-- A lower rank is not a worse rate, and keys sorted are still those of the bids in. Assumes nothing.
+use mathlib.Core.Path.{_≡_, _∙_}
+use mathlib.Core.Bool.{true, false}
+use mathlib.Core.List.{List}
+use Prim.Native.Nat.{ℕ, _+_, _≤_}
+use native.Mathlib.Omega.{arith}
+use borrow.Author.Tests.{ltb-true, ltb-false, lt-ltb, le-ltb, eqb-true}
+use Rattle.envelope.specs.declared.announcement.Side.{Side}
+use Rattle.envelope.specs.declared.announcement.Side.the-variants.{La, Lp}
+use Rattle.places.specs.declared.Rate.{Rate}
+use Rattle.places.specs.declared.Amount.{Amount}
+use Rattle.sort.specs.Sorting.{Same}
+use Rattle.sort.proofs.Sorting.{each-still}
+use Rattle.rules.specs.Allotment.{Offer, betterRate}
+use Rattle.marginal.specs.Ranks.{keyBid, ranks, isKey, Ranked}
+
+pub lower-rank : (d : Side) (r s k l : ℕ) → ranks d r k ≡ true → ranks d s l ≡ true → k ≤ l → betterRate d s r ≡ false
+unfolding ranks betterRate
+lower-rank La r s k l h g e = le-ltb s r (omega (arith, eqb-true k r h, eqb-true l s g))
+lower-rank Lp r s k l h g e = le-ltb r s (omega (arith, eqb-true (k + r) 4294967295 h, eqb-true (l + s) 4294967295 g))
+
+-- c is better than r, and x is not: c is better than x
+pub better-than : (d : Side) (c r x : ℕ) → betterRate d c r ≡ true → betterRate d x r ≡ false → betterRate d c x ≡ true
+unfolding betterRate
+better-than La c r x h k = lt-ltb c x (omega (arith, ltb-true, ltb-false))
+better-than Lp c r x h k = lt-ltb x c (omega (arith, ltb-true, ltb-false))
+
+-- the same keys in another order
+pub ranked-sorted : (o : Offer) (rates : List Rate) (amounts : List Amount) (d n : ℕ) (before after : List ℕ)
+    → Ranked o rates amounts d before n → Same before after n → Ranked o rates amounts d after n
+ranked-sorted o rates amounts d n before after r same =
+    record {
+      few = r .few;
+      are-keys = each-still before after n same (λ (k : ℕ). isKey o rates amounts k ≡ true) (r .are-keys);
+      weigh = λ w. same (λ k. w (keyBid rates amounts k)) ∙ r .weigh w;
+    }
