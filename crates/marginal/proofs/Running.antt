@@ -2,9 +2,8 @@
 use mathlib.Core.Path.{_≡_, refl, sym, _∙_, ap, subst}
 use mathlib.Core.Bool.{Bool, true, false, _&&_, not, cond}
 use mathlib.Core.Option.{none, some}
-use mathlib.Core.List.{List, List·Memᴰ, List·Memᴰ·head, List·Memᴰ·tail}
-use Prim.Native.Nat.{ℕ, zero, suc, _+_, _/_, _%_, _≤_, _<_}
-use native.Mathlib.Nat.{add-zero}
+use mathlib.Core.List.{List, List·Memᴰ}
+use Prim.Native.Nat.{ℕ, suc, _+_, _/_, _%_, _≤_, _<_}
 use native.Mathlib.Omega.{arith}
 use native.Mathlib.Numerals.{add-one}
 use lib.Dec.{leb, ltb}
@@ -18,19 +17,12 @@ use Rattle.rules.specs.Allotment.{Bid, Offer, betterRate, isIn, isBetter, isEqu
 use Rattle.rules.proofs.Kept.{mem-keep, keep-mem, total-split}
 use Rattle.rules.proofs.Rates.{notWorse, split-rate}
 use Rattle.rules.proofs.Best.{best-unique, best-none, is-marginal}
-use Rattle.bids.specs.Columns.{bidAt, bidsFrom}
+use Rattle.bids.specs.Columns.{bidsFrom}
+use Rattle.bids.proofs.Columns.{bid-member}
 use Rattle.offer.proofs.Totals.{keep-le}
 use Rattle.marginal.specs.Ranks.{keyBid, ranks, isKey, Ranked}
 use Rattle.marginal.proofs.Sums.{cond-le, sum-within, sum-stops, sum-none, weight-amount, weight-test, weight-member}
 use Rattle.marginal.proofs.Ranks.{lower-rank, better-than}
-
--- a bid of the columns is one of the list
-member : (rates : List Rate) (amounts : List Amount) (i d k : ℕ) → k < d → (m : ℕ) → m ≡ i + k
-    → List·Memᴰ (bidAt rates amounts m) (bidsFrom rates amounts i d)
-unfolding bidsFrom
-member rates amounts i zero k h m e = absurd (omega arith)
-member rates amounts i (suc d) zero h m e = List·Memᴰ·head (ap (bidAt rates amounts) (e ∙ add-zero i))
-member rates amounts i (suc d) (suc k) h m e = List·Memᴰ·tail (member rates amounts (suc i) d k (omega arith) m (omega arith))
 
 -- the running total over the first j keys
 unfoldable pub running : List Rate → List Amount → List ℕ → ℕ → ℕ
@@ -69,7 +61,7 @@ module _ (o : Offer) (rates : List Rate) (amounts : List Amount) (keys : List �
   rank j h = and-right (ltb (getD keys j 0 % 1024) 640) _ (and-right (isIn o (bid j)) _ (ranked .are-keys j h))
 
   in-list : (j : ℕ) → j < n → List·Memᴰ (bid j) bs
-  in-list j h = member rates amounts 0 640 (getD keys j 0 % 1024) (index-below j h) (getD keys j 0 % 1024) (omega arith)
+  in-list j h = bid-member rates amounts 640 (getD keys j 0 % 1024) (index-below j h)
 
   -- a later bid is not better
   later : (i j : ℕ) → i ≤ j → j < n → betterRate (o .side) (bid j .rate) (bid i .rate) ≡ false

@@ -68,6 +68,10 @@ module _ (a m e k : ℕ) (below : k < binaryLength a) where
 
 -- the share
 
+pub quotient-is : (a m e : ℕ) → division a m e .quotient ≡ a * m / e
+unfolding division divisionAt
+quotient-is a m e = ap (λ (x : ℕ). x * m / e) (first-all a)
+
 pub share-is : (o : Offer) (bs : List Bid) (r a : ℕ) → share o bs r a ≡ a * (o .offered - totalBetter o bs r) / totalEqual o bs r
-unfolding share division divisionAt
-share-is o bs r a = ap (λ (x : ℕ). x * (o .offered - totalBetter o bs r) / totalEqual o bs r) (first-all a)
+unfolding share
+share-is o bs r a = quotient-is a (o .offered - totalBetter o bs r) (totalEqual o bs r)

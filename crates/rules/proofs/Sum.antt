@@ -84,11 +84,11 @@ module _ (o : Offer) (bs : List Bid) (r : ℕ) where
       (cond (leb (o .offered) (totalBetter o bs r)) 0
       (share o bs r (b .amount) + cent (length (keep (isEqual o r) before)) (centsLeft o bs r)))
 
-  equal-in : (b : Bid) → isEqual o r b ≡ true → isIn o b ≡ true
+  pub equal-in : (b : Bid) → isEqual o r b ≡ true → isIn o b ≡ true
   unfolding isEqual
   equal-in b e = and-left (isIn o b) (eqb (b .rate) r) e
 
-  equal-rate : (b : Bid) → isEqual o r b ≡ true → b .rate ≡ r
+  pub equal-rate : (b : Bid) → isEqual o r b ≡ true → b .rate ≡ r
   unfolding isEqual
   equal-rate b e = eqb-true (b .rate) r (and-right (isIn o b) (eqb (b .rate) r) e)
 
@@ -96,7 +96,7 @@ module _ (o : Offer) (bs : List Bid) (r : ℕ) where
   unfolding award awardAtRate
   award-equal before b e = rw (equal-in b e, equal-rate b e)
 
-award-out : (o : Offer) (bs before : List Bid) (b : Bid) → isIn o b ≡ false → award o bs before b ≡ 0
+pub award-out : (o : Offer) (bs before : List Bid) (b : Bid) → isIn o b ≡ false → award o bs before b ≡ 0
 unfolding award
 award-out o bs before b e = rw e
 

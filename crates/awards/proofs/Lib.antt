@@ -1,0 +1,3 @@
+pub mod LastRate
+pub mod Award
+pub mod Loops
