@@ -8,7 +8,7 @@ use native.Mathlib.Nat.{pow-le-pow-right}
 use native.Mathlib.Omega.{arith}
 use lib.Dec.{ltb, eqb, lit<}
 use lib.ListN.{length, take, drop, getD, replicate, length-take}
-use borrow.Author.Tests.{ltb-false, le-ltb}
+use borrow.Author.Tests.{ltb-false, le-ltb, not-false}
 use Rattle.calendar.specs.Calendar.{validDate, validTime}
 use Rattle.laws.proofs.Tests.{and-right, or-left, or-right}
 use Rattle.digits.specs.Decimal.{allDigits, numberOf}
@@ -180,13 +180,20 @@ module _ (m codes : List ℕ) (h : openingRefused m codes ≡ none) where
       let c6 = next-condition 6 (datesDisordered m) _ (c5 .1) in
       next-condition 7 (badCodes codes) _ (c6 .1) .0
 
-  few-codes : length codes ≤ 64
+  pub few-codes : length codes ≤ 64
   unfolding badCodes
   few-codes =
       ltb-false 64 (length codes)
       (or-right (eqb (length codes) 0) (ltb 64 (length codes))
       (or-left (eqb (length codes) 0 || ltb 64 (length codes)) (not (rising codes))
       (or-left (eqb (length codes) 0 || ltb 64 (length codes) || not (rising codes)) (any (ltb 99999) codes) codes-good)))
+
+  pub rising-codes : rising codes ≡ true
+  unfolding badCodes
+  rising-codes =
+      not-false (rising codes)
+      (or-right (eqb (length codes) 0 || ltb 64 (length codes)) (not (rising codes))
+      (or-left (eqb (length codes) 0 || ltb 64 (length codes) || not (rising codes)) (any (ltb 99999) codes) codes-good))
 
   opened : openTender m codes .1 ≡ openWith (termsOf m codes) (newBook codes)
   unfolding openTender

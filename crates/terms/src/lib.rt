@@ -292,7 +292,7 @@ fn no_terms() -> Terms
 }
 
 // Whether an answer is that the tender is opened.
-fn is_opened(a: OpenAnswer) -> bool
+pub fn is_opened(a: OpenAnswer) -> bool
     ensures { λ r. ⌜ r ≡ isOpened a ⌝ }
 {
     match a {

@@ -1,0 +1,6 @@
+pub mod Ladders
+pub mod Changing
+pub mod Allotting
+pub mod Answering
+pub mod Opening
+pub mod ArrivalOrder

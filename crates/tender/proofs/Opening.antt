@@ -1,0 +1,99 @@
+-- What opening gives: the tender of the announcement, or an empty one that is revoked. Assumes nothing.
+use mathlib.Core.Path.{_≡_, refl, sym, ap, _∙_}
+use mathlib.Core.Bool.{true, false, false≢true}
+use mathlib.Core.List.{List, []}
+use mathlib.Core.Option.{Option, none, some}
+use Prim.Native.Nat.{ℕ}
+use lib.ListN.{take}
+use Rattle.envelope.specs.Refusals.{unlessRefused}
+use Rattle.rules.specs.Opening as rules
+use Rattle.rules.specs.Opening.{openingRefused, termsOf, noTerms, rising}
+use Rattle.rules.specs.Receiving.{newBook}
+use Rattle.rules.specs.Calls.{Open, Revoked, noTender, openTender}
+use Rattle.rules.proofs.ArrivalOrder.{few-codes, rising-codes}
+use Rattle.terms.specs.declared.Terms as declared
+use Rattle.terms.specs.declared.OpenAnswer.{OpenAnswer}
+use Rattle.terms.specs.declared.OpenAnswer.the-variants.{Opened, NotAnnouncement, OtherOrigin, Malformed, UnknownType, Impossible, Disordered, BadCodes}
+use Rattle.terms.specs.Viewed as terms
+use Rattle.terms.specs.Viewed.{openRefusal, isOpened, admittedIn, opening}
+use Rattle.book.specs.declared.Book.{Book}
+use Rattle.book.specs.Viewed as book
+use Rattle.book.proofs.Empty.{new-whole}
+use Rattle.book.proofs.Joining.{new-codes}
+use Rattle.tender.specs.declared.State.the-variants as state
+use Rattle.tender.specs.Calls.{Opens}
+
+opened-none : (a : OpenAnswer) → isOpened a ≡ true → openRefusal a ≡ none
+opened-none Opened h = refl
+opened-none NotAnnouncement h = absurd (false≢true h)
+opened-none OtherOrigin h = absurd (false≢true h)
+opened-none Malformed h = absurd (false≢true h)
+opened-none UnknownType h = absurd (false≢true h)
+opened-none Impossible h = absurd (false≢true h)
+opened-none Disordered h = absurd (false≢true h)
+opened-none BadCodes h = absurd (false≢true h)
+
+refused-some : (a : OpenAnswer) → isOpened a ≡ false → (n : ℕ) × (openRefusal a ≡ some n)
+refused-some Opened h = absurd (false≢true (sym h))
+refused-some NotAnnouncement h = (1, refl)
+refused-some OtherOrigin h = (2, refl)
+refused-some Malformed h = (3, refl)
+refused-some UnknownType h = (4, refl)
+refused-some Impossible h = (5, refl)
+refused-some Disordered h = (6, refl)
+refused-some BadCodes h = (7, refl)
+
+module _ (m codes : List ℕ) (a : OpenAnswer) (t : declared.Terms) (b : Book)
+    (e : _≡_ {A = Option ℕ × rules.Terms} (openRefusal a, terms.viewed t (admittedIn m codes)) (opening m codes)) where
+  number : openRefusal a ≡ openingRefused m codes
+  unfolding opening
+  number = ap (λ (p : Option ℕ × rules.Terms). p .0) e
+
+  terms-are : terms.viewed t (unlessRefused (openingRefused m codes) [] codes) ≡ unlessRefused (openingRefused m codes) noTerms (termsOf m codes)
+  unfolding opening admittedIn
+  terms-are = ap (λ (p : Option ℕ × rules.Terms). p .1) e
+
+  module _ (h : isOpened a ≡ true) (k : book.viewed b ≡ newBook (take 64 codes)) where
+    none-holds : openingRefused m codes ≡ none
+    none-holds = sym number ∙ opened-none a h
+
+    entries : book.viewed b ≡ newBook codes
+    entries = k ∙ new-whole codes (few-codes m codes none-holds)
+
+    admitted : book.codesIn (book.viewed b) ≡ codes
+    admitted = ap book.codesIn entries ∙ new-codes codes
+
+    terms-open : terms.viewed t (book.codesIn (book.viewed b)) ≡ termsOf m codes
+    terms-open = ap (terms.viewed t) admitted ∙ (rw none-holds at terms-are)
+
+    pub opens : Opens m codes (record { answer = a; tender = record { state = state.Open; terms = t; book = b } })
+    unfolding openTender
+    opens =
+        record {
+          equal =
+              (λ i. (number i, record { terms = terms-open i; state = Open; book = entries i }))
+              ∙ sym (ap (λ (l : Option ℕ). (openingRefused m codes, unlessRefused l noTender (record { terms = termsOf m codes; state = Open; book = newBook codes }))) none-holds);
+          given = record { rises = ap rising admitted ∙ rising-codes m codes none-holds };
+        }
+
+  module _ (h : isOpened a ≡ false) (k : book.viewed b ≡ newBook (take 64 [])) where
+    no-entries : book.viewed b ≡ []
+    unfolding newBook
+    no-entries = k
+
+    no-codes : book.codesIn (book.viewed b) ≡ []
+    unfolding book.codesIn
+    no-codes = ap book.codesIn no-entries
+
+    pub opens-nothing : Opens m codes (record { answer = a; tender = record { state = state.Revoked; terms = t; book = b } })
+    unfolding openTender rising
+    opens-nothing =
+        let n = refused-some a h .0 in
+        let holds : openingRefused m codes ≡ some n = sym number ∙ refused-some a h .1 in
+        let terms-none : terms.viewed t (book.codesIn (book.viewed b)) ≡ noTerms = ap (terms.viewed t) no-codes ∙ (rw holds at terms-are) in
+        record {
+          equal =
+              (λ i. (number i, record { terms = terms-none i; state = Revoked; book = no-entries i }))
+              ∙ sym (ap (λ (l : Option ℕ). (openingRefused m codes, unlessRefused l noTender (record { terms = termsOf m codes; state = Open; book = newBook codes }))) holds);
+          given = record { rises = ap rising no-codes };
+        }

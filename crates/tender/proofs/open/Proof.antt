@@ -1,0 +1,56 @@
+-- `tender::open` meets its contract. Assumes nothing.
+use borrow.Author.Needs.{needs}
+use mathlib.Core.Path.{sym, _∙_}
+use denote.Ref.{now}
+use Rattle.tender.proofs.Opening.{opens, opens-nothing}
+use Rattle.tender.proofs.open.Statement.{statement}
+use Rattle.tender.proofs.open.Tie as tie
+
+open-requires : tie.Need-open-requires
+open-requires c κs = search needs
+
+is-opened-requires : tie.Need-is-opened-requires
+is-opened-requires c κs = search needs
+
+new-book-requires : tie.Need-new-book-requires
+new-book-requires c κs = search needs
+
+sub-new-book : tie.Need-sub-new-book
+sub-new-book c = search needs
+
+part-new-book-start : tie.Need-part-new-book-start
+part-new-book-start c = search needs
+
+part-new-book-end : tie.Need-part-new-book-end
+part-new-book-end c = search needs
+
+new-book-requires-2 : tie.Need-new-book-requires-2
+new-book-requires-2 c κs = search needs
+
+returns : tie.Need-returns
+returns c =
+    let i = c .before .before in
+    let o = i .before .before in
+    let a = o .before .before .before .args in
+    opens (now (a .m)) (now (a .codes)) (o .«open» .result .answer) (o .«open» .result .terms) (c .new-book .result) (o .«open» .ensures) (sym (i .is-opened .ensures) ∙ c .before .if1 .taken) (c .new-book .ensures)
+
+returns-2 : tie.Need-returns-2
+returns-2 c =
+    let i = c .before .before .before in
+    let o = i .before .before in
+    let a = o .before .before .before .args in
+    opens-nothing (now (a .m)) (now (a .codes)) (o .«open» .result .answer) (o .«open» .result .terms) (c .new-book2 .result) (o .«open» .ensures) (sym (i .is-opened .ensures) ∙ c .before .before .if1 .left) (c .new-book2 .ensures)
+
+pub open-spec : {M : Type 1} → statement M
+open-spec =
+    tie.close
+    (tie.spec
+    open-requires
+    is-opened-requires
+    new-book-requires
+    sub-new-book
+    part-new-book-start
+    part-new-book-end
+    new-book-requires-2
+    returns
+    returns-2)

@@ -1,0 +1,48 @@
+-- What each call on a tender promises: one equation with the rules, the very tender that came in where nothing changes it, and a tender that may be
+-- handed to the next call. Assumes nothing.
+use mathlib.Core.Path.{_≡_}
+use mathlib.Core.List.{List, [], _∷_}
+use mathlib.Core.Option.{Option}
+use Prim.Native.Nat.{ℕ}
+use Rattle.envelope.specs.Refusals.{firstHolding, unlessRefused}
+use Rattle.rules.specs.Receiving.{Reception, returnedErrors}
+use Rattle.rules.specs.Calls as rules
+use Rattle.errors.specs.Listed.{listed}
+use Rattle.terms.specs.Viewed.{openRefusal}
+use Rattle.tender.specs.declared.Tender.{Tender}
+use Rattle.tender.specs.declared.Opened.{Opened}
+use Rattle.tender.specs.declared.Received.{Received}
+use Rattle.tender.specs.declared.Changed.{Changed}
+use Rattle.tender.specs.declared.Allotted.{Allotted}
+use Rattle.tender.specs.Viewed.{viewed, Given, numberOf, answerOf, errorsIn, lengthIn, unlessConfirmed, allottedIn}
+
+-- conditions 8, 9 and 10, which receiving and closing ask first
+abbrev pub notOpen : rules.Tender → ℕ → ℕ → Option ℕ
+notOpen t date time = firstHolding ((8, rules.isRevoked t) ∷ (9, rules.isOver t) ∷ (10, rules.clockInvalid date time) ∷ [])
+
+-- what the rules answer where no condition refuses the reception
+abbrev pub answered : rules.Tender → Reception → rules.Answer × rules.Tender × List ℕ
+answered t x = rules.answerWith (returnedErrors (t .terms) (t .book) x) t x
+
+pub record Opens (m codes : List ℕ) (r : Opened) : Type 0 where
+  pub equal : (openRefusal (r .answer), viewed (r .tender)) ≡ rules.openTender m codes
+  pub given : Given (r .tender)
+
+-- the reply space is `after` the call
+pub record Receives (t : Tender) (expected : rules.Answer × rules.Tender × List ℕ) (r : Received) (after : List ℕ) : Type 0 where
+  pub equal : (answerOf r, viewed (r .tender), after) ≡ expected
+  pub errors-are : listed (r .errors) ≡ errorsIn (answerOf r)
+  pub length-is : r .length ≡ lengthIn (answerOf r)
+  pub unchanged : r .tender ≡ unlessConfirmed (answerOf r) t (r .tender)
+  pub given : Given (r .tender)
+
+-- closing and revoking
+pub record Changes (t : Tender) (expected : Option ℕ × rules.Tender) (r : Changed) : Type 0 where
+  pub equal : (numberOf (r .refusal), viewed (r .tender)) ≡ expected
+  pub unchanged : r .tender ≡ unlessRefused (numberOf (r .refusal)) t (r .tender)
+  pub given : Given (r .tender)
+
+pub record Allots (t : Tender) (r : Allotted) : Type 0 where
+  pub equal : (numberOf (r .refusal), viewed (r .tender), allottedIn r) ≡ rules.allot (viewed t)
+  pub unchanged : r .tender ≡ unlessRefused (numberOf (r .refusal)) t (r .tender)
+  pub given : Given (r .tender)

@@ -1,0 +1,98 @@
+-- The code's tender, refusals and answers as document 01's. Assumes nothing.
+use mathlib.Core.Path.{_≡_}
+use mathlib.Core.Bool.{Bool, true, false}
+use mathlib.Core.List.{List, [], map}
+use mathlib.Core.Option.{Option, none, some}
+use Prim.Native.Nat.{ℕ}
+use lib.ListN.{replicate}
+use Rattle.rules.specs.Opening.{rising}
+use Rattle.rules.specs.Receiving.{Error}
+use Rattle.rules.specs.Calls as rules
+use Rattle.errors.specs.Listed.{listed}
+use Rattle.terms.specs.Viewed as terms
+use Rattle.bids.specs.Columns.{noAmount}
+use Rattle.book.specs.Viewed as book
+use Rattle.marginal.specs.declared.MarginalRate.the-variants as rate
+use Rattle.marginal.specs.Ranks.{rateIn}
+use Rattle.allotment.specs.Allotted.{cents}
+use Rattle.tender.specs.declared.State.{State}
+use Rattle.tender.specs.declared.State.the-variants as state
+use Rattle.tender.specs.declared.Refusal.{Refusal}
+use Rattle.tender.specs.declared.Refusal.the-variants as refusal
+use Rattle.tender.specs.declared.Tender.{Tender}
+use Rattle.tender.specs.declared.Received.{Received}
+use Rattle.tender.specs.declared.Changed.{Changed}
+use Rattle.tender.specs.declared.Allotted.{Allotted}
+
+-- 'open, closed, announced or revoked'
+abbrev pub stateOf : State → rules.State
+stateOf state.Open = rules.Open
+stateOf state.Closed = rules.Closed
+stateOf state.Announced = rules.Announced
+stateOf state.Revoked = rules.Revoked
+
+abbrev pub codesOf : Tender → List ℕ
+codesOf t = book.codesIn (book.viewed (t .book))
+
+abbrev pub viewed : Tender → rules.Tender
+viewed t = record { terms = terms.viewed (t .terms) (codesOf t); state = stateOf (t .state); book = book.viewed (t .book) }
+
+-- 'Every tender handed to a call was given by opening or an earlier call, and what holds of all those may be relied on': its codes rise
+pub record Given (t : Tender) : Type 0 where
+  pub rises : rising (codesOf t) ≡ true
+
+-- document 01's number for each refusal
+abbrev pub numberOf : Refusal → Option ℕ
+numberOf refusal.None = none
+numberOf refusal.Revoked = some 8
+numberOf refusal.Over = some 9
+numberOf refusal.ClockInvalid = some 10
+numberOf refusal.SpaceShort = some 11
+numberOf refusal.Unreadable = some 12
+numberOf refusal.BeforeCutOff = some 13
+numberOf refusal.Open = some 14
+numberOf refusal.Announced = some 15
+numberOf refusal.BidsExceed = some 16
+
+abbrev pub isSome : Option ℕ → Bool
+isSome none = false
+isSome (some n) = true
+
+abbrev pub inStateOf : State → Tender → Tender
+inStateOf s t = record { state = s; terms = t .terms; book = t .book }
+
+abbrev pub changedTo : Refusal → Tender → Changed
+changedTo r t = record { refusal = r; tender = t }
+
+-- awards of zero and no marginal rate
+abbrev pub unallottedOf : Refusal → Tender → Allotted
+unallottedOf r t = record { refusal = r; tender = t; awards = replicate 640 noAmount; marginal = rate.None }
+
+-- a reception refused, or answered with the errors and the length of the reply
+abbrev pub answerIn : Option ℕ → List Error → ℕ → rules.Answer
+answerIn none es n = rules.answerTo es n
+answerIn (some k) es n = rules.refused k
+
+abbrev pub answerOf : Received → rules.Answer
+answerOf r = answerIn (numberOf (r .refusal)) (listed (r .errors)) (r .length)
+
+-- the errors and the length that stand beside an answer: none where the message is not returned, zero where the reception is refused
+abbrev pub errorsIn : rules.Answer → List Error
+errorsIn (rules.confirmed n) = []
+errorsIn (rules.returned es n) = es
+errorsIn (rules.refused k) = []
+
+abbrev pub lengthIn : rules.Answer → ℕ
+lengthIn (rules.confirmed n) = n
+lengthIn (rules.returned es n) = n
+lengthIn (rules.refused k) = 0
+
+-- 'An accepted message ..; one with errors gets RE01 and changes nothing in the tender'
+abbrev pub unlessConfirmed : {A : Type 0} → rules.Answer → A → A → A
+unlessConfirmed (rules.confirmed n) old new = new
+unlessConfirmed (rules.returned es n) old new = old
+unlessConfirmed (rules.refused k) old new = old
+
+-- what allotting gives
+abbrev pub allottedIn : Allotted → rules.Allotted
+allottedIn a = record { awards = map cents (a .awards); marginal = rateIn (a .marginal) }

@@ -1,0 +1,318 @@
+// The calls on a tender: each takes it by value and gives back the next one with the answer.
+pub mod internal;
+
+use allotment::allot;
+use book::Book;
+use book::in_order;
+use book::new_book;
+use calendar::moment_later;
+use calendar::valid_date;
+use calendar::valid_time;
+use envelope::application::ReadAnswer;
+use envelope::application::read;
+use errors::Errors;
+use errors::none;
+use internal::answer;
+use marginal::MarginalRate;
+use offer::Offer;
+use places::Amount;
+use terms::OpenAnswer;
+use terms::Terms;
+use terms::is_opened;
+ghost use mathlib.Core.Path.{_≡_};
+ghost use mathlib.Core.List.{[], _∷_};
+ghost use Rattle.envelope.specs.Refusals.{firstHolding};
+ghost use Rattle.rules.specs.Calls.{clockInvalid, receive, close, revoke};
+ghost use Rattle.errors.specs.Listed.{listed};
+ghost use Rattle.checks.specs.Columns.{received};
+ghost use Rattle.tender.specs.declared.State.the-variants as state;
+ghost use Rattle.tender.specs.declared.Refusal.the-variants as refusal;
+ghost use Rattle.tender.specs.Viewed.{viewed, Given, numberOf, isSome, inStateOf, changedTo, unallottedOf};
+ghost use Rattle.tender.specs.Calls.{notOpen, Opens, Receives, Changes, Allots};
+
+pub enum State {
+    Open,
+    Closed,
+    Announced,
+    Revoked,
+}
+
+// What was announced and for whom, what is held for each admitted code, and where the tender stands.
+pub struct Tender {
+    pub state: State,
+    pub terms: Terms,
+    pub book: Book,
+}
+
+// Why a call is refused, or that it is not.
+pub enum Refusal {
+    None,
+    Revoked,
+    Over,
+    ClockInvalid,
+    SpaceShort,
+    Unreadable,
+    BeforeCutOff,
+    Open,
+    Announced,
+    BidsExceed,
+}
+
+// Why an opening is refused, or that it is not, and the tender.
+pub struct Opened {
+    pub answer: OpenAnswer,
+    pub tender: Tender,
+}
+
+// A reception that is not refused is confirmed, or returned with its errors; the length is that of the reply.
+pub struct Received {
+    pub refusal: Refusal,
+    pub errors: Errors,
+    pub length: usize,
+    pub tender: Tender,
+}
+
+// What closing and revoking give.
+pub struct Changed {
+    pub refusal: Refusal,
+    pub tender: Tender,
+}
+
+// The awards of all places in book order and the marginal rate: zeros and none where allotting is refused.
+pub struct Allotted {
+    pub refusal: Refusal,
+    pub tender: Tender,
+    pub awards: [Amount; 640],
+    pub marginal: MarginalRate,
+}
+
+// The tender of an announcement and the codes admitted to it; a refused opening gives an empty one that is revoked.
+pub fn open(m: &[u8], codes: &[u32]) -> Opened
+    ensures { λ r. ⌜ Opens (now (m .entry)) (now (codes .entry)) r ⌝ }
+{
+    let opening = terms::open(m, codes);
+    let answer = opening.answer;
+    let terms = opening.terms;
+    if is_opened(answer) {
+        let book = new_book(codes);
+        Opened {
+            answer,
+            tender: Tender {
+                state: State::Open,
+                terms,
+                book,
+            },
+        }
+    } else {
+        let book = new_book(&codes[0..0]);
+        Opened {
+            answer,
+            tender: Tender {
+                state: State::Revoked,
+                terms,
+                book,
+            },
+        }
+    }
+}
+
+// Whether a refusal is one.
+fn is_refused(r: Refusal) -> bool
+    ensures { λ b. ⌜ b ≡ isSome (numberOf r) ⌝ }
+{
+    match r {
+        Refusal::None => false,
+        Refusal::Revoked => true,
+        Refusal::Over => true,
+        Refusal::ClockInvalid => true,
+        Refusal::SpaceShort => true,
+        Refusal::Unreadable => true,
+        Refusal::BeforeCutOff => true,
+        Refusal::Open => true,
+        Refusal::Announced => true,
+        Refusal::BidsExceed => true,
+    }
+}
+
+// Condition 10.
+fn clock_refusal(date: u64, time: u64) -> Refusal
+    ensures { λ r. ⌜ numberOf r ≡ firstHolding ((10, clockInvalid date time) ∷ []) ⌝ }
+{
+    if valid_date(date) & valid_time(time) {
+        return Refusal::None;
+    }
+    Refusal::ClockInvalid
+}
+
+// Conditions 8, 9 and 10.
+fn not_open(t: Tender, date: u64, time: u64) -> Refusal
+    ensures { λ r. ⌜ numberOf r ≡ notOpen (viewed t) date time ⌝ }
+{
+    let state = t.state;
+    match state {
+        State::Open => clock_refusal(date, time),
+        State::Closed => Refusal::Over,
+        State::Announced => Refusal::Over,
+        State::Revoked => Refusal::Revoked,
+    }
+}
+
+// The tender in another state.
+fn in_state(t: Tender, state: State) -> Tender
+    ensures { λ r. ⌜ r ≡ inStateOf state t ⌝ }
+{
+    let terms = t.terms;
+    let book = t.book;
+    Tender { state, terms, book }
+}
+
+// A reception refused: no errors, no reply and the tender as it was.
+fn unreceived(t: Tender, refusal: Refusal) -> Received
+    ensures { λ r. ⌜ (r .refusal ≡ refusal) × (listed (r .errors) ≡ []) × (r .length ≡ 0) × (r .tender ≡ t) ⌝ }
+{
+    Received {
+        refusal,
+        errors: none(),
+        length: 0,
+        tender: t,
+    }
+}
+
+// The tender revoked.
+fn revoked(t: Tender) -> Changed
+    ensures { λ r. ⌜ r ≡ changedTo refusal.None (inStateOf state.Revoked t) ⌝ }
+{
+    Changed {
+        refusal: Refusal::None,
+        tender: in_state(t, State::Revoked),
+    }
+}
+
+// An allotment refused: awards of zero, no marginal rate and the tender as it was.
+fn unallotted(t: Tender, refusal: Refusal) -> Allotted
+    ensures { λ r. ⌜ r ≡ unallottedOf refusal t ⌝ }
+{
+    Allotted {
+        refusal,
+        tender: t,
+        awards: [Amount(0); 640],
+        marginal: MarginalRate::None,
+    }
+}
+
+// The awards of a closed tender, unless its bids exceed what condition 16 allows.
+fn award(t: Tender) -> Allotted
+    requires { ⌜ Given t ⌝ }
+    requires { ⌜ t .state ≡ state.Closed ⌝ }
+    ensures { λ r. ⌜ Allots t r ⌝ }
+{
+    let terms = t.terms;
+    let book = t.book;
+    let columns = in_order(book);
+    let rates = columns.rates;
+    let amounts = columns.amounts;
+    let side = terms.side;
+    let limit = terms.limit;
+    let offered = terms.offered;
+    let o = Offer {
+        side,
+        limit,
+        offered,
+    };
+    let allotment = allot(o, rates, amounts);
+    if allotment.exceeds {
+        return unallotted(t, Refusal::BidsExceed);
+    }
+    let awards = allotment.awards;
+    let marginal = allotment.marginal;
+    Allotted {
+        refusal: Refusal::None,
+        tender: in_state(t, State::Announced),
+        awards,
+        marginal,
+    }
+}
+
+impl Tender {
+    // Receives a message at a date and time and writes the reply to it at the start of the space.
+    pub fn receive(self, m: &[u8], date: u64, time: u64, space: &mut [u8]) -> Received
+        requires { ⌜ Given self ⌝ }
+        ensures { λ r. ⌜ Receives self (receive (viewed self) (received (now (m .entry)) date time (now (space .entry)))) r (now (space .exit)) ⌝ }
+    {
+        let first = not_open(self, date, time);
+        if is_refused(first) {
+            return unreceived(self, first);
+        }
+        if space.len() < 418 {
+            return unreceived(self, Refusal::SpaceShort);
+        }
+        let reading = read(m);
+        let found = reading.answer;
+        match found {
+            ReadAnswer::Unreadable => unreceived(self, Refusal::Unreadable),
+            ReadAnswer::Readable => {
+                let fields = reading.fields;
+                answer(self, m, fields, date, time, space)
+            }
+        }
+    }
+
+    // Closes the tender at a clock reading past its cut-off.
+    pub fn close(self, date: u64, time: u64) -> Changed
+        requires { ⌜ Given self ⌝ }
+        ensures { λ r. ⌜ Changes self (close (viewed self) date time) r ⌝ }
+    {
+        let first = not_open(self, date, time);
+        if is_refused(first) {
+            return Changed {
+                refusal: first,
+                tender: self,
+            };
+        }
+        let terms = self.terms;
+        if moment_later(date, time, terms.execution, terms.cutoff) {
+            return Changed {
+                refusal: Refusal::None,
+                tender: in_state(self, State::Closed),
+            };
+        }
+        Changed {
+            refusal: Refusal::BeforeCutOff,
+            tender: self,
+        }
+    }
+
+    // Allots the offer of a closed tender to the bids in its book.
+    pub fn allot(self) -> Allotted
+        requires { ⌜ Given self ⌝ }
+        ensures { λ r. ⌜ Allots self r ⌝ }
+    {
+        let state = self.state;
+        match state {
+            State::Open => unallotted(self, Refusal::Open),
+            State::Closed => award(self),
+            State::Announced => unallotted(self, Refusal::Announced),
+            State::Revoked => unallotted(self, Refusal::Revoked),
+        }
+    }
+
+    // Revokes a tender that is not announced yet.
+    pub fn revoke(self) -> Changed
+        requires { ⌜ Given self ⌝ }
+        ensures { λ r. ⌜ Changes self (revoke (viewed self)) r ⌝ }
+    {
+        let state = self.state;
+        match state {
+            State::Open => revoked(self),
+            State::Closed => revoked(self),
+            State::Announced => Changed {
+                refusal: Refusal::Announced,
+                tender: self,
+            },
+            State::Revoked => Changed {
+                refusal: Refusal::Revoked,
+                tender: self,
+            },
+        }
+    }
+}
