@@ -9,8 +9,10 @@ use Rattle.rules.specs.Opening.{rising}
 use Rattle.rules.specs.Receiving.{Error}
 use Rattle.rules.specs.Calls as rules
 use Rattle.errors.specs.Listed.{listed}
+use Rattle.terms.specs.declared.Terms.{Terms}
 use Rattle.terms.specs.Viewed as terms
 use Rattle.bids.specs.Columns.{noAmount}
+use Rattle.book.specs.declared.Book.{Book}
 use Rattle.book.specs.Viewed as book
 use Rattle.marginal.specs.declared.MarginalRate.the-variants as rate
 use Rattle.marginal.specs.Ranks.{rateIn}
@@ -57,6 +59,9 @@ numberOf refusal.BidsExceed = some 16
 abbrev pub isSome : Option ℕ → Bool
 isSome none = false
 isSome (some n) = true
+
+abbrev pub tenderOf : State → Terms → Book → Tender
+tenderOf s t b = record { state = s; terms = t; book = b }
 
 abbrev pub inStateOf : State → Tender → Tender
 inStateOf s t = record { state = s; terms = t .terms; book = t .book }

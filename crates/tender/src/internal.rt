@@ -1,10 +1,13 @@
-// The answer to a reception that no condition refuses.
+// The answer to a reception that no condition refuses, and a tender made for a case.
 use crate::Received;
 use crate::Refusal;
+use crate::State;
 use crate::Tender;
+use book::Book;
 use envelope::application::Fields;
 use reception::internal::put_reply;
 use reception::internal::submit;
+use terms::Terms;
 ghost use mathlib.Core.Path.{_≡_};
 ghost use mathlib.Core.Bool.{true, _&&_};
 ghost use Prim.Native.Nat.{_≤_};
@@ -13,7 +16,7 @@ ghost use Rattle.calendar.specs.Calendar.{validDate, validTime};
 ghost use Rattle.layout.specs.Fields.{readable};
 ghost use Rattle.envelope.specs.Application.{layout6G1, fieldsOf};
 ghost use Rattle.checks.specs.Columns.{received};
-ghost use Rattle.tender.specs.Viewed.{viewed, Given};
+ghost use Rattle.tender.specs.Viewed.{viewed, Given, tenderOf};
 ghost use Rattle.tender.specs.Calls.{answered, Receives};
 
 // Submits a readable message with the fields f to the book and writes the reply.
@@ -42,4 +45,11 @@ pub fn answer(t: Tender, m: &[u8], f: Fields, date: u64, time: u64, space: &mut 
             book: next,
         },
     }
+}
+
+// A tender of its parts, as no call gives one: for cases that no receptions lead to.
+pub fn tender_of(state: State, terms: Terms, book: Book) -> Tender
+    ensures { λ r. ⌜ r ≡ tenderOf state terms book ⌝ }
+{
+    Tender { state, terms, book }
 }

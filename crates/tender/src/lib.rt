@@ -39,9 +39,9 @@ pub enum State {
 
 // What was announced and for whom, what is held for each admitted code, and where the tender stands.
 pub struct Tender {
-    pub state: State,
-    pub terms: Terms,
-    pub book: Book,
+    state: State,
+    terms: Terms,
+    book: Book,
 }
 
 // Why a call is refused, or that it is not.
@@ -234,6 +234,27 @@ fn award(t: Tender) -> Allotted
 }
 
 impl Tender {
+    // Where the tender stands.
+    pub fn state(self) -> State
+        ensures { λ r. ⌜ r ≡ self .state ⌝ }
+    {
+        self.state
+    }
+
+    // What was announced.
+    pub fn terms(self) -> Terms
+        ensures { λ r. ⌜ r ≡ self .terms ⌝ }
+    {
+        self.terms
+    }
+
+    // What is held for each admitted code.
+    pub fn book(self) -> Book
+        ensures { λ r. ⌜ r ≡ self .book ⌝ }
+    {
+        self.book
+    }
+
     // Receives a message at a date and time and writes the reply to it at the start of the space.
     pub fn receive(self, m: &[u8], date: u64, time: u64, space: &mut [u8]) -> Received
         requires { ⌜ Given self ⌝ }
