@@ -39,14 +39,15 @@ pub fn submit(m: &[u8], f: Fields, t: Terms, b: Book, day: u64, second: u64) -> 
     let sender = f.sender;
     let code = number_of(sender);
     let e = errors_of(m, t, f, is_admitted(b, code), day, second);
-    if 0 < e.n {
+    if 1 <= e.n {
         return Submitted { errors: e, book: b };
     }
     let time = f.time;
     let places = f.places;
     let rates = places.rates;
     let amounts = places.amounts;
-    let accepted = accept(b, code, number_of(time), rates, amounts);
+    let reference = number_of(time);
+    let accepted = accept(b, code, reference, rates, amounts);
     if accepted.taken {
         let book = accepted.book;
         return Submitted { errors: e, book };

@@ -1,10 +1,10 @@
 -- Demand 3 of what the calls return: the theorem of the rules, carried over the contracts. Assumes nothing.
-use mathlib.Core.Path.{_≡_, refl, sym, ap, subst, _∙_}
-use mathlib.Core.List.{List, [], _∷_}
+use mathlib.Core.Path.{_≡_, refl, sym, ap, _∙_}
+use mathlib.Core.List.{List}
 use mathlib.Core.Option.{Option, none}
 use Prim.Native.Nat.{ℕ}
 use Rattle.rules.specs.Allotment.{sum}
-use Rattle.rules.specs.Opening.{termsOf, openingRefused}
+use Rattle.rules.specs.Opening.{openingRefused}
 use Rattle.rules.specs.Receiving.{Reception}
 use Rattle.rules.specs.Calls as rules
 use Rattle.rules.specs.ArrivalOrder.{receiveAll, afterReceptions, afterClosing}

@@ -178,13 +178,13 @@ fn unreceived(t: Tender, refusal: Refusal) -> Received
     }
 }
 
-// The tender revoked.
-fn revoked(t: Tender) -> Changed
-    ensures { λ r. ⌜ r ≡ changedTo refusal.None (inStateOf state.Revoked t) ⌝ }
+// The tender in another state, not refused.
+fn accepted(t: Tender, state: State) -> Changed
+    ensures { λ r. ⌜ r ≡ changedTo refusal.None (inStateOf state t) ⌝ }
 {
     Changed {
         refusal: Refusal::None,
-        tender: in_state(t, State::Revoked),
+        tender: in_state(t, state),
     }
 }
 
@@ -225,9 +225,11 @@ fn award(t: Tender) -> Allotted
     }
     let awards = allotment.awards;
     let marginal = allotment.marginal;
+    let refusal = Refusal::None;
+    let tender = in_state(t, State::Announced);
     Allotted {
-        refusal: Refusal::None,
-        tender: in_state(t, State::Announced),
+        refusal,
+        tender,
         awards,
         marginal,
     }
@@ -292,10 +294,7 @@ impl Tender {
         }
         let terms = self.terms;
         if moment_later(date, time, terms.execution, terms.cutoff) {
-            return Changed {
-                refusal: Refusal::None,
-                tender: in_state(self, State::Closed),
-            };
+            return accepted(self, State::Closed);
         }
         Changed {
             refusal: Refusal::BeforeCutOff,
@@ -324,8 +323,8 @@ impl Tender {
     {
         let state = self.state;
         match state {
-            State::Open => revoked(self),
-            State::Closed => revoked(self),
+            State::Open => accepted(self, State::Revoked),
+            State::Closed => accepted(self, State::Revoked),
             State::Announced => Changed {
                 refusal: Refusal::Announced,
                 tender: self,

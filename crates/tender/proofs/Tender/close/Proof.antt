@@ -5,10 +5,10 @@ use mathlib.Core.Bool.{Bool, true, not}
 use mathlib.Core.List.{[], _∷_}
 use Rattle.envelope.specs.Refusals.{firstHolding}
 use Rattle.rules.specs.Calls.{Closed, isRevoked, isOver, clockInvalid, beforeCutOff, closingRefused, inState, close}
-use Rattle.tender.specs.declared.Refusal.the-variants.{None, BeforeCutOff}
+use Rattle.tender.specs.declared.Refusal.the-variants.{BeforeCutOff}
 use Rattle.tender.specs.declared.State.the-variants as state
-use Rattle.tender.specs.declared.Tender.{Tender}
-use Rattle.tender.specs.Viewed.{viewed, numberOf, isSome, changedTo}
+use Rattle.tender.specs.declared.Changed.{Changed}
+use Rattle.tender.specs.Viewed.{viewed, numberOf, isSome}
 use Rattle.tender.specs.Calls.{Changes}
 use Rattle.tender.proofs.Ladders.{refused-first, refused-later}
 use Rattle.tender.proofs.Changing.{changes-refused, changes-state}
@@ -35,8 +35,8 @@ returns c =
 moment-later-requires : tie.Need-moment-later-requires
 moment-later-requires c κs = search needs
 
-in-state-requires : tie.Need-in-state-requires
-in-state-requires c κs = search needs
+accepted-requires : tie.Need-accepted-requires
+accepted-requires c κs = search needs
 
 -- what is left to ask of an open tender at a valid clock reading
 last-asked : (c : tie.Else1)
@@ -57,7 +57,7 @@ returns-2 c =
     let start = e .before .before .before in
     let a = start .args in
     let number = last-asked e ∙ ap (λ (b : Bool). firstHolding ((13, not b) ∷ [])) (sym (l .moment-later .ensures) ∙ c .before .if2 .taken) in
-    subst (λ (next : Tender). Changes (a .self) (close (viewed (a .self)) (a .date) (a .time)) (changedTo None next)) (sym (c .in-state .ensures)) (changes-state (a .self) (start .pre) (closingRefused (viewed (a .self)) (a .date) (a .time)) state.Closed number)
+    subst (λ (r : Changed). Changes (a .self) (close (viewed (a .self)) (a .date) (a .time)) r) (sym (c .accepted .ensures)) (changes-state (a .self) (start .pre) (closingRefused (viewed (a .self)) (a .date) (a .time)) state.Closed number)
 
 returns-3 : tie.Need-returns-3
 unfolding close firstHolding beforeCutOff
@@ -77,6 +77,6 @@ close-spec =
     is-refused-requires
     returns
     moment-later-requires
-    in-state-requires
+    accepted-requires
     returns-2
     returns-3)

@@ -19,14 +19,14 @@ use Rattle.tender.proofs.Tender.revoke.Tie as tie
 enum-told : tie.Need-enum-told
 enum-told c = search needs
 
-revoked-requires : tie.Need-revoked-requires
-revoked-requires c κs = search needs
+accepted-requires : tie.Need-accepted-requires
+accepted-requires c κs = search needs
 
 enum-told-2 : tie.Need-enum-told-2
 enum-told-2 c = search needs
 
-revoked-requires-2 : tie.Need-revoked-requires-2
-revoked-requires-2 c κs = search needs
+accepted-requires-2 : tie.Need-accepted-requires-2
+accepted-requires-2 c κs = search needs
 
 enum-told-3 : tie.Need-enum-told-3
 enum-told-3 c = search needs
@@ -38,21 +38,21 @@ enum-told-4 c = search needs
 number-in : (t : Tender) (s : State) → t .state ≡ s → revokingRefused (viewed t) ≡ revokingRefused (viewed (inStateOf s t))
 number-in t s e = ap (λ (x : State). revokingRefused (viewed (inStateOf x t))) e
 
-accepted : (t : Tender) (r : Changed) → Given t → revokingRefused (viewed t) ≡ none → r ≡ changedTo refusal.None (inStateOf state.Revoked t) → Changes t (revoke (viewed t)) r
+in-other-state : (t : Tender) (r : Changed) → Given t → revokingRefused (viewed t) ≡ none → r ≡ changedTo refusal.None (inStateOf state.Revoked t) → Changes t (revoke (viewed t)) r
 unfolding revoke
-accepted t r g n e = subst (λ (x : Changed). Changes t (revoke (viewed t)) x) (sym e) (changes-state t g (revokingRefused (viewed t)) state.Revoked n)
+in-other-state t r g n e = subst (λ (x : Changed). Changes t (revoke (viewed t)) x) (sym e) (changes-state t g (revokingRefused (viewed t)) state.Revoked n)
 
 returns : tie.Need-returns
 unfolding revokingRefused firstHolding isRevoked isAnnounced
 returns c =
     let start = c .before .before .before in
-    accepted (start .args .self) (c .revoked .result) (start .pre) (number-in (start .args .self) state.Open (c .before .enum-told .given .1)) (c .revoked .ensures)
+    in-other-state (start .args .self) (c .accepted .result) (start .pre) (number-in (start .args .self) state.Open (c .before .enum-told .given .1)) (c .accepted .ensures)
 
 returns-2 : tie.Need-returns-2
 unfolding revokingRefused firstHolding isRevoked isAnnounced
 returns-2 c =
     let start = c .before .before .before in
-    accepted (start .args .self) (c .revoked2 .result) (start .pre) (number-in (start .args .self) state.Closed (c .before .enum-told2 .given .1)) (c .revoked2 .ensures)
+    in-other-state (start .args .self) (c .accepted2 .result) (start .pre) (number-in (start .args .self) state.Closed (c .before .enum-told2 .given .1)) (c .accepted2 .ensures)
 
 returns-3 : tie.Need-returns-3
 unfolding revoke revokingRefused firstHolding isRevoked isAnnounced
@@ -73,9 +73,9 @@ revoke-spec =
     tie.close
     (tie.spec
     enum-told
-    revoked-requires
+    accepted-requires
     enum-told-2
-    revoked-requires-2
+    accepted-requires-2
     enum-told-3
     enum-told-4
     returns
