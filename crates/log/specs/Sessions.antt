@@ -59,7 +59,7 @@ unfoldable pub sessions : List (List ℕ × List ℕ)
 sessions =
     (session, printed)
     -- before an accepted A1 fields are skipped, and a refused A1 is none
-    ∷ (application 90001 ++ field 0xA3 (ascii "12032012110001") ++ field 0xA4 [] ++ field 0xA5 [], [])
+    ∷ (application 90001 ++ field 0xA3 (ascii "12032012110001") ++ field 0xA4 [] ++ field 0xA5 [] ++ field 0xA1 [], refusedWith (ascii "01"))
     ∷ (field 0xA1 [] ++ field 0xA5 [], refusedWith (ascii "01"))
     ∷ (field 0xA1 announcement ++ application 90001, refusedWith (ascii "07"))
     -- a refused A1 keeps the old tender
