@@ -39,7 +39,7 @@ pub struct Columns {
 }
 
 // A number, or 64 where it is larger.
-fn up_to_64(n: usize) -> usize
+pub fn up_to_64(n: usize) -> usize
     ensures { λ r. ⌜ r ≡ upTo64 n ⌝ }
 {
     if n < 64 { n } else { 64 }

@@ -1,0 +1,433 @@
+// Compares the library's shares and allotments with a plain reference in C, then measures both on the
+// same input in one run. With --check it only compares.
+#define _POSIX_C_SOURCE 200809L
+#include <inttypes.h>
+#include <stdbool.h>
+#include <stddef.h>
+#include <stdint.h>
+#include <stdio.h>
+#include <stdlib.h>
+#include <string.h>
+#include <time.h>
+
+enum { PLACES = 640, BOOKS = 3000, SHARES = 1024, RUNS = 25 };
+
+// The numbers past every rate that crate measured answers with.
+#define NO_RATE UINT64_C(4294967296)
+#define EXCEEDS UINT64_C(4294967297)
+
+#define MOST_BIDS UINT64_C(999999999999999999)
+#define WIDEST_AMOUNT UINT64_C(999999999999999)
+
+typedef unsigned __int128 wide;
+
+// The exports of crate measured.
+uint64_t measured_share(uint64_t a, uint64_t m, uint64_t e);
+uint64_t measured_allot(bool lp, uint32_t limit, uint64_t offered, const uint32_t *rates,
+    size_t rates_length, const uint64_t *amounts, size_t amounts_length, uint64_t *awards,
+    size_t awards_length);
+
+// An offer and the places of a book.
+struct book {
+    bool lp;
+    uint32_t limit;
+    uint64_t offered;
+    uint32_t rates[PLACES];
+    uint64_t amounts[PLACES];
+};
+
+// The marginal rate or a number past every rate, and the awards.
+struct allotment {
+    uint64_t marginal;
+    uint64_t awards[PLACES];
+};
+
+struct bid {
+    uint32_t rate;
+    uint64_t amount;
+    size_t place;
+};
+
+// The numbers of one share: an amount, what is left of the offer, and the total at the amount's rate.
+struct share {
+    uint64_t a;
+    uint64_t m;
+    uint64_t e;
+};
+
+// ---- Library and reference ----
+
+static void library_allot(const struct book *b, struct allotment *result)
+{
+    result->marginal = measured_allot(b->lp, b->limit, b->offered, b->rates, PLACES, b->amounts,
+        PLACES, result->awards, PLACES);
+}
+
+__attribute__((noinline)) static uint64_t reference_share(uint64_t a, uint64_t m, uint64_t e)
+{
+    return (uint64_t)((wide)a * m / e);
+}
+
+static int by_place(const struct bid *x, const struct bid *y)
+{
+    return (x->place > y->place) - (x->place < y->place);
+}
+
+static int lowest_first(const void *left, const void *right)
+{
+    const struct bid *x = left, *y = right;
+    return x->rate != y->rate ? (x->rate > y->rate ? 1 : -1) : by_place(x, y);
+}
+
+static int highest_first(const void *left, const void *right)
+{
+    const struct bid *x = left, *y = right;
+    return x->rate != y->rate ? (x->rate < y->rate ? 1 : -1) : by_place(x, y);
+}
+
+static wide total(const struct book *b)
+{
+    wide sum = 0;
+    for (size_t i = 0; i < PLACES; i++)
+        sum += b->amounts[i];
+    return sum;
+}
+
+static bool is_in(const struct book *b, size_t i)
+{
+    bool filled = b->rates[i] != 0 || b->amounts[i] != 0;
+    return filled && (b->lp ? b->rates[i] >= b->limit : b->rates[i] <= b->limit);
+}
+
+// The bids in, best rate first and at one rate in book order.
+static size_t bids_in(const struct book *b, struct bid bids[PLACES])
+{
+    size_t n = 0;
+    for (size_t i = 0; i < PLACES; i++)
+        if (is_in(b, i))
+            bids[n++] = (struct bid){b->rates[i], b->amounts[i], i};
+    qsort(bids, n, sizeof bids[0], b->lp ? highest_first : lowest_first);
+    return n;
+}
+
+// Shares what is left of the offer among the bids of one rate, then gives the leftover cents.
+static void share_out(const struct bid *bids, size_t n, uint64_t left, uint64_t at_rate,
+    uint64_t awards[PLACES])
+{
+    uint64_t cents = left;
+    for (size_t i = 0; i < n; i++) {
+        uint64_t share = reference_share(bids[i].amount, left, at_rate);
+        awards[bids[i].place] = share;
+        cents -= share;
+    }
+    for (size_t i = 0; i < n && i < cents; i++)
+        awards[bids[i].place]++;
+}
+
+static void serve_in_full(const struct bid *bids, size_t n, uint64_t awards[PLACES])
+{
+    for (size_t i = 0; i < n; i++)
+        awards[bids[i].place] = bids[i].amount;
+}
+
+// How many of the bids stand at the rate of the first, and their total.
+static size_t at_one_rate(const struct bid *bids, size_t n, uint64_t *sum)
+{
+    size_t i = 0;
+    *sum = 0;
+    for (; i < n && bids[i].rate == bids[0].rate; i++)
+        *sum += bids[i].amount;
+    return i;
+}
+
+// Serves the rates best first until the offer is reached.
+__attribute__((noinline)) static void reference_allot(const struct book *b,
+    struct allotment *result)
+{
+    struct bid bids[PLACES];
+    memset(result->awards, 0, sizeof result->awards);
+    if (total(b) > MOST_BIDS) {
+        result->marginal = EXCEEDS;
+        return;
+    }
+    size_t n = bids_in(b, bids);
+    uint64_t left = b->offered;
+    for (size_t i = 0; i < n;) {
+        uint64_t sum;
+        size_t some = at_one_rate(bids + i, n - i, &sum);
+        if (sum <= left)
+            serve_in_full(bids + i, some, result->awards);
+        else
+            share_out(bids + i, some, left, sum, result->awards);
+        if (sum >= left) {
+            result->marginal = bids[i].rate;
+            return;
+        }
+        left -= sum;
+        i += some;
+    }
+    result->marginal = NO_RATE;
+}
+
+// ---- Random books ----
+
+static uint64_t seed = UINT64_C(88172645463325252);
+
+static uint64_t random_number(void)
+{
+    seed ^= seed << 13;
+    seed ^= seed >> 7;
+    seed ^= seed << 17;
+    return seed;
+}
+
+// A number below n.
+static uint64_t random_below(uint64_t n)
+{
+    return random_number() % n;
+}
+
+// An amount: none, a few cents, up to fifteen digits or, rarely, enough for condition 16.
+static uint64_t random_amount(bool small)
+{
+    if (random_below(8) == 0)
+        return 0;
+    if (small)
+        return random_below(20);
+    if (random_below(20000) == 0)
+        return random_number();
+    return random_below(WIDEST_AMOUNT + 1);
+}
+
+// The bids in at a rate and at better ones, together.
+static wide total_up_to(const struct book *b, uint32_t rate)
+{
+    wide sum = 0;
+    for (size_t i = 0; i < PLACES; i++)
+        if (is_in(b, i) && (b->lp ? b->rates[i] >= rate : b->rates[i] <= rate))
+            sum += b->amounts[i];
+    return sum;
+}
+
+// An offer of few cents, of exactly what some rate reaches, or of anything up to more than all bids.
+static uint64_t random_offer(const struct book *b)
+{
+    wide all = total(b);
+    switch (random_below(8)) {
+    case 0:
+        return random_below(3);
+    case 1:
+        return (uint64_t)total_up_to(b, b->rates[random_below(PLACES)]);
+    default:
+        return (uint64_t)(random_number() % (all + all / 8 + 2));
+    }
+}
+
+// A book with few or many rates, some of its places empty.
+static void random_book(struct book *b)
+{
+    uint64_t rates = 1 + random_below(random_below(3) == 0 ? PLACES : 12);
+    uint64_t empty = 1 + random_below(6);
+    uint32_t step = random_below(4) == 0 ? 1 : 1000;
+    bool small = random_below(4) == 0;
+    b->lp = random_below(2) == 0;
+    b->limit = (uint32_t)random_below(rates) * step / (b->lp ? 2 : 1);
+    for (size_t i = 0; i < PLACES; i++) {
+        bool filled = random_below(empty + 1) != 0;
+        b->rates[i] = filled ? (uint32_t)random_below(rates) * step : 0;
+        b->amounts[i] = filled ? random_amount(small) : 0;
+    }
+    b->offered = random_offer(b);
+}
+
+// A share as an allotment has it: the amount is part of the total, of which less is left of the offer.
+static void random_share(struct share *s)
+{
+    s->a = WIDEST_AMOUNT - random_below(WIDEST_AMOUNT / 10 * 9);
+    s->e = s->a + random_below(MOST_BIDS - s->a + 1);
+    s->m = random_below(s->e);
+}
+
+// ---- Comparison ----
+
+static void print_number(const char *name, uint64_t number)
+{
+    fprintf(stderr, "  %s %" PRIu64 "\n", name, number);
+}
+
+// Prints the offer and the first place at which the awards differ, and stops.
+static void fail_book(int k, const struct book *b, const struct allotment *library,
+    const struct allotment *reference)
+{
+    size_t i = 0;
+    while (i < PLACES - 1 && library->awards[i] == reference->awards[i])
+        i++;
+    fprintf(stderr, "bench: book %d differs: %s\n", k, b->lp ? "LP" : "LA");
+    print_number("limit", b->limit);
+    print_number("offered", b->offered);
+    print_number("marginal rate, library", library->marginal);
+    print_number("marginal rate, reference", reference->marginal);
+    print_number("place", i);
+    print_number("its rate", b->rates[i]);
+    print_number("its amount", b->amounts[i]);
+    print_number("its award, library", library->awards[i]);
+    print_number("its award, reference", reference->awards[i]);
+    exit(1);
+}
+
+// Compares random books, and counts each kind of answer so that none is missing.
+static void compare_books(void)
+{
+    unsigned met = 0, not_met = 0, refused = 0;
+    for (int k = 0; k < BOOKS; k++) {
+        struct book b;
+        struct allotment library, reference;
+        random_book(&b);
+        memset(library.awards, 0xff, sizeof library.awards);
+        library_allot(&b, &library);
+        reference_allot(&b, &reference);
+        if (library.marginal != reference.marginal
+            || memcmp(library.awards, reference.awards, sizeof library.awards) != 0)
+            fail_book(k, &b, &library, &reference);
+        met += reference.marginal < NO_RATE;
+        not_met += reference.marginal == NO_RATE;
+        refused += reference.marginal == EXCEEDS;
+    }
+    printf("%d books equal: offer met in %u, not met in %u, refused in %u\n", BOOKS, met, not_met,
+        refused);
+}
+
+static void compare_shares(void)
+{
+    for (int k = 0; k < 100 * SHARES; k++) {
+        struct share s;
+        random_share(&s);
+        uint64_t library = measured_share(s.a, s.m, s.e);
+        uint64_t reference = reference_share(s.a, s.m, s.e);
+        if (library != reference) {
+            fprintf(stderr, "bench: share %d differs\n", k);
+            print_number("amount", s.a);
+            print_number("left of the offer", s.m);
+            print_number("total at the rate", s.e);
+            print_number("library", library);
+            print_number("reference", reference);
+            exit(1);
+        }
+    }
+    printf("%d shares equal\n", 100 * SHARES);
+}
+
+// ---- Measuring ----
+
+// What is measured adds to this, so that no call can be left out.
+static volatile uint64_t sink;
+
+static struct share shares[SHARES];
+static struct book measured_book;
+
+static void library_shares(void)
+{
+    for (size_t i = 0; i < SHARES; i++)
+        sink += measured_share(shares[i].a, shares[i].m, shares[i].e);
+}
+
+static void reference_shares(void)
+{
+    for (size_t i = 0; i < SHARES; i++)
+        sink += reference_share(shares[i].a, shares[i].m, shares[i].e);
+}
+
+static void library_book(void)
+{
+    struct allotment result;
+    library_allot(&measured_book, &result);
+    sink += result.marginal + result.awards[0];
+}
+
+static void reference_book(void)
+{
+    struct allotment result;
+    reference_allot(&measured_book, &result);
+    sink += result.marginal + result.awards[0];
+}
+
+// Nanoseconds of processor time.
+static double now(void)
+{
+    struct timespec t;
+    clock_gettime(CLOCK_PROCESS_CPUTIME_ID, &t);
+    return (double)t.tv_sec * 1e9 + (double)t.tv_nsec;
+}
+
+// The time of one call in a run of many.
+static double time_of(void (*call)(void), int calls)
+{
+    double start = now();
+    for (int i = 0; i < calls; i++)
+        call();
+    return (now() - start) / calls;
+}
+
+// The shortest of alternating runs, in units of so many nanoseconds, and how they compare.
+static void measure(const char *name, void (*library)(void), void (*reference)(void), double unit,
+    const char *unit_name)
+{
+    double best_library = 1e18, best_reference = 1e18;
+    for (int k = 0; k < RUNS; k++) {
+        double time = time_of(library, 50);
+        best_library = time < best_library ? time : best_library;
+        time = time_of(reference, 50);
+        best_reference = time < best_reference ? time : best_reference;
+    }
+    printf("%-32s %9.2f %s %9.2f %s %7.2f\n", name, best_library / unit, unit_name,
+        best_reference / unit, unit_name, best_library / best_reference);
+}
+
+static void swap_rates(uint32_t *x, uint32_t *y)
+{
+    uint32_t kept = *x;
+    *x = *y;
+    *y = kept;
+}
+
+// A full book in LP with amounts of fifteen digits, half of their total offered; the rates are a step
+// apart and shuffled.
+static void fill_book(uint32_t step)
+{
+    struct book *b = &measured_book;
+    b->lp = true;
+    b->limit = 100000;
+    for (uint32_t i = 0; i < PLACES; i++) {
+        b->rates[i] = 100000 + step * i;
+        b->amounts[i] = WIDEST_AMOUNT - random_below(WIDEST_AMOUNT / 10 * 9);
+    }
+    for (size_t i = PLACES - 1; i > 0; i--)
+        swap_rates(&b->rates[i], &b->rates[random_below(i + 1)]);
+    b->offered = (uint64_t)(total(b) / 2);
+}
+
+static void measure_all(void)
+{
+    printf("%-32s %12s %12s %7s\n", "", "Rattle", "reference", "ratio");
+    for (size_t i = 0; i < SHARES; i++)
+        random_share(&shares[i]);
+    measure("a share of 15 digits", library_shares, reference_shares, SHARES, "ns");
+    fill_book(0);
+    measure("an allotment, 640 bids, one rate", library_book, reference_book, 1000, "us");
+    fill_book(1000);
+    measure("an allotment, 640 bids and rates", library_book, reference_book, 1000, "us");
+}
+
+int main(int argc, char **argv)
+{
+    bool only_compare = argc == 2 && strcmp(argv[1], "--check") == 0;
+    if (argc > 1 && !only_compare) {
+        fprintf(stderr, "usage: allotment [--check]\n");
+        return 2;
+    }
+    compare_shares();
+    compare_books();
+    if (!only_compare)
+        measure_all();
+    return 0;
+}

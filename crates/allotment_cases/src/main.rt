@@ -1,0 +1,20 @@
+// Cases of an allotment that run instead of being proved. What is printed is held to the file stdout,
+// which was calculated from document 01 by other means than this library.
+mod book;
+mod line;
+mod many;
+mod marked;
+mod most;
+mod rates;
+mod sharing;
+
+fn main() {
+    marked::marked();
+    marked::example();
+    many::full_books();
+    sharing::met();
+    sharing::cents();
+    rates::limit();
+    rates::ends();
+    most::sums();
+}

@@ -1,0 +1,110 @@
+// For measuring only: one share and one allotment, on numbers that a benchmark in C gives.
+use allotment::allot;
+use division::internal::divide;
+use envelope::announcement::Side;
+use marginal::MarginalRate;
+use offer::Offer;
+use places::Amount;
+use places::Rate;
+ghost use Prim.Native.Nat.{_≤_};
+ghost use lib.ListN.{length};
+
+// What stands for no marginal rate: the first number past every rate.
+const NO_RATE: u64 = 4294967296;
+
+// What stands for a refusal by condition 16.
+const EXCEEDS: u64 = 4294967297;
+
+// What stands for a slice with fewer than 640 elements.
+const SHORT: u64 = 4294967298;
+
+// The share a times m by e, for measuring only; 0 where the division does not take these numbers.
+#[no_mangle]
+pub extern "C" fn measured_share(a: u64, m: u64, e: u64) -> u64 {
+    if e <= m {
+        return 0;
+    }
+    if 1_000_000_000_000_000_000 <= e {
+        return 0;
+    }
+    divide(Amount(a), Amount(m), Amount(e)).quotient.0
+}
+
+fn rates_of(numbers: &[u32]) -> [Rate; 640]
+    requires { ⌜ 640 ≤ length (now numbers) ⌝ }
+{
+    let mut rates = [Rate(0); 640];
+    let mut i = 0;
+    while i < 640 {
+        rates[i] = Rate(numbers[i]);
+        i += 1;
+    }
+    rates
+}
+
+fn amounts_of(numbers: &[u64]) -> [Amount; 640]
+    requires { ⌜ 640 ≤ length (now numbers) ⌝ }
+{
+    let mut amounts = [Amount(0); 640];
+    let mut i = 0;
+    while i < 640 {
+        amounts[i] = Amount(numbers[i]);
+        i += 1;
+    }
+    amounts
+}
+
+fn put_awards(space: &mut [u64], awards: [Amount; 640])
+    requires { ⌜ 640 ≤ length (now space) ⌝ }
+{
+    let mut i = 0;
+    while i < 640 {
+        space[i] = awards[i].0;
+        i += 1;
+    }
+}
+
+fn side_of(lp: bool) -> Side {
+    if lp { Side::Lp } else { Side::La }
+}
+
+fn number_of(m: MarginalRate) -> u64 {
+    match m {
+        MarginalRate::At(rate) => rate.0 as u64,
+        MarginalRate::None => NO_RATE,
+    }
+}
+
+// Allots to 640 places, writes the awards and gives the marginal rate or one of the numbers above, for measuring only.
+#[no_mangle]
+pub extern "C" fn measured_allot(
+    lp: bool,
+    limit: u32,
+    offered: u64,
+    rates: &[u32],
+    amounts: &[u64],
+    awards: &mut [u64],
+) -> u64 {
+    if rates.len() < 640 {
+        return SHORT;
+    }
+    if amounts.len() < 640 {
+        return SHORT;
+    }
+    if awards.len() < 640 {
+        return SHORT;
+    }
+    let o = Offer {
+        side: side_of(lp),
+        limit: Rate(limit),
+        offered: Amount(offered),
+    };
+    let a = allot(o, rates_of(rates), amounts_of(amounts));
+    let given = a.awards;
+    put_awards(awards, given);
+    if a.exceeds {
+        return EXCEEDS;
+    }
+    let marginal = a.marginal;
+    number_of(marginal)
+}
