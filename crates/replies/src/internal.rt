@@ -71,7 +71,7 @@ fn put_text(space: &mut [u8], at: usize, code: u16) -> usize
 // Writes the texts of the errors after the first, each after a slash.
 fn put_rest(space: &mut [u8], at: usize, e: Errors) -> usize
     requires { ⌜ (0 < e .n) × (e .n ≤ 16) × (at + 10 * e .n ≤ length (now space) + 10) ⌝ }
-    ensures { λ r. ⌜ Wrote (now (space .entry)) at (slashed (drop 1 (take (e .n) (e .codes)))) (now (space .exit)) r ⌝ }
+    ensures { λ r. ⌜ Wrote (now (space .entry)) at (slashed (drop 1 (take (e .n) (e .codes)))) (now (space .exit)) r × (r + 10 ≡ at + 10 * e .n) ⌝ }
 {
     let codes = e.codes;
     let n = e.n;
@@ -88,7 +88,7 @@ fn put_rest(space: &mut [u8], at: usize, e: Errors) -> usize
 // Writes the texts of the errors, joined by slashes.
 fn put_texts(space: &mut [u8], at: usize, e: Errors) -> usize
     requires { ⌜ (0 < e .n) × (e .n ≤ 16) × (at + 10 * e .n ≤ length (now space) + 1) ⌝ }
-    ensures { λ r. ⌜ Wrote (now (space .entry)) at (errorTexts (listed e)) (now (space .exit)) r ⌝ }
+    ensures { λ r. ⌜ Wrote (now (space .entry)) at (errorTexts (listed e)) (now (space .exit)) r × (r + 1 ≡ at + 10 * e .n) ⌝ }
 {
     let first = e.codes[0];
     let rest = put_text(space, at, first);
@@ -108,6 +108,15 @@ fn shown(e: Errors) -> Errors
     next.codes[4] = 999;
     next.n = 5;
     next
+}
+
+// Writes the errors that a reply shows, joined by slashes.
+pub fn put_errors(space: &mut [u8], at: usize, e: Errors) -> usize
+    requires { ⌜ (0 < e .n) × (e .n ≤ 16) × (at + 49 ≤ length (now space)) ⌝ }
+    ensures { λ r. ⌜ Wrote (now (space .entry)) at (errorTexts (shown (listed e))) (now (space .exit)) r × (r ≤ at + 49) ⌝ }
+{
+    let few = shown(e);
+    put_texts(space, at, few)
 }
 
 // Writes a message and after it the two fields that say its errors.

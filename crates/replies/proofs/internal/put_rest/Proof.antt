@@ -64,7 +64,7 @@ same-length c = omega arith
 returns : tie.Need-returns Inv-loop μ-loop
 returns c =
     let e : c .before .loop .k ≡ c .before .before .before .before .args .e .n = omega arith in
-    rw (← e) (c .before .loop .inv .5)
+    (rw (← e) (c .before .loop .inv .5), omega (arith, c .before .loop .inv .2))
 
 pub put-rest-spec : {M : Type 1} → statement M
 put-rest-spec =

@@ -71,7 +71,7 @@ returns c =
     let n : length (take (s .result .n) (s .result .codes)) ≡ s .result .n = length-take-le (s .result .n) (s .result .codes) (omega arith) in
     let x = now (copy .before .before .before .before .args .m) ++ field 0x98 (ascii "*** MESSAGGIO ERRATO ***") in
     said (errors-field x (take (s .result .n) (s .result .codes)) (s .result .n) n (there few) ∙ ap (λ (es : List Error). x ++ field 0x98 (errorTexts es)) (s .ensures .0))
-    (then zero-le (then zero-le (then zero-le (copy .put .ensures) (banner .put-field .ensures .0)) (head .put-head .ensures)) (texts .put-texts .ensures))
+    (then zero-le (then zero-le (then zero-le (copy .put .ensures) (banner .put-field .ensures .0)) (head .put-head .ensures)) (texts .put-texts .ensures .0))
 
 pub put-returned-spec : {M : Type 1} → statement M
 put-returned-spec =

@@ -21,7 +21,9 @@ same-length c = search needs
 returns : tie.Need-returns
 returns c =
     let e = c .before .before .before .before .before .before .before .before .before .before .args .t3 in
-    said (texts-are (e .codes) (e .n) (omega arith) (search needs)) (then (omega arith) (c .before .before .before .before .before .before .put-text .ensures .0) (c .before .before .put-rest .ensures))
+    let text = c .before .before .before .before .before .before .put-text in
+    let rest = c .before .before .put-rest in
+    (said (texts-are (e .codes) (e .n) (omega arith) (search needs)) (then (omega arith) (text .ensures .0) (rest .ensures .0)), omega (arith, text .ensures .1, rest .ensures .1))
 
 pub put-texts-spec : {M : Type 1} → statement M
 put-texts-spec =
