@@ -10,7 +10,8 @@ use Rattle.rules.specs.Allotment.{Bid, Offer, total, awards, marginalRate}
 use Rattle.rules.specs.Calls.{Allotted, notAllotted}
 use Rattle.awards.specs.LastRate.{amountOf}
 use Rattle.offer.specs.Viewed.{mostBids}
-use Rattle.allotment.specs.Allotted.{cents, allotted}
+use Rattle.bids.specs.Columns.{cents}
+use Rattle.allotment.specs.Allotted.{allotted}
 
 pub refused : (o : Offer) (bs : List Bid) → ltb mostBids (total bs) ≡ true → _≡_ {A = Bool × Allotted} (true, notAllotted) (allotted o bs)
 unfolding allotted

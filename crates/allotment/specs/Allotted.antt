@@ -1,17 +1,13 @@
 -- The code's allotment as document 01's. Assumes nothing.
 use mathlib.Core.Bool.{Bool, true, false, cond}
 use mathlib.Core.List.{List, map}
-use Prim.Native.Nat.{ℕ}
 use lib.Dec.{ltb}
-use Rattle.places.specs.declared.Amount.{Amount}
 use Rattle.rules.specs.Allotment.{Bid, Offer, total, awards, marginalRate}
 use Rattle.rules.specs.Calls.{Allotted, notAllotted}
+use Rattle.bids.specs.Columns.{cents}
 use Rattle.marginal.specs.Ranks.{rateIn}
 use Rattle.offer.specs.Viewed.{mostBids}
 use Rattle.allotment.specs.declared.Allotment.{Allotment}
-
-abbrev pub cents : Amount → ℕ
-cents a = a .0
 
 abbrev pub viewed : Allotment → Bool × Allotted
 viewed a = (a .exceeds, record { awards = map cents (a .awards); marginal = rateIn (a .marginal) })

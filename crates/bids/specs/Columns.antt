@@ -16,6 +16,9 @@ noAmount = record { 0 = 0 }
 abbrev pub viewed : declared.Bid → rules.Bid
 viewed b = record { rate = b .rate .0; amount = b .amount .0 }
 
+abbrev pub cents : Amount → ℕ
+cents a = a .0
+
 -- the bid at an index
 abbrev pub bidAt : List Rate → List Amount → ℕ → rules.Bid
 bidAt rates amounts i = record { rate = getD rates i noRate .0; amount = getD amounts i noAmount .0 }

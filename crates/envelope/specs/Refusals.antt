@@ -13,3 +13,8 @@ firstHolding (c ∷ conditions) = cond (c .1) (some (c .0)) (firstHolding condit
 abbrev pub unlessRefused : {A : Type 0} → Option ℕ → A → A → A
 unlessRefused (some n) old new = old
 unlessRefused none old new = new
+
+-- the number of a refusal, and zero where there is none
+abbrev pub orZero : Option ℕ → ℕ
+orZero none = 0
+orZero (some n) = n

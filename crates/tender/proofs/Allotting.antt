@@ -19,7 +19,7 @@ use Rattle.marginal.specs.declared.MarginalRate.{MarginalRate}
 use Rattle.marginal.specs.Ranks.{rateIn}
 use Rattle.allotment.specs.declared.Allotment.{Allotment}
 use Rattle.allotment.specs.Allotted as allotted
-use Rattle.allotment.specs.Allotted.{cents}
+use Rattle.bids.specs.Columns.{cents}
 use Rattle.tender.specs.declared.State.{State}
 use Rattle.tender.specs.declared.State.the-variants as state
 use Rattle.tender.specs.declared.Refusal.{Refusal}

@@ -3,8 +3,9 @@ use mathlib.Core.Path.{_≡_, refl, sym, ap, ap₂, subst, _∙_}
 use mathlib.Core.Bool.{Bool, true, false, cond, not, false≢true}
 use mathlib.Core.List.{List, [], _∷_, _++_, map}
 use mathlib.Core.Option.{Option, none, some}
-use Prim.Native.Nat.{ℕ, _+_, _<_}
+use Prim.Native.Nat.{ℕ, _+_, _<_, _≤_}
 use native.Mathlib.Nat.{zero-add}
+use native.Mathlib.Omega.{arith}
 use lib.Dec.{ltb}
 use lib.ListN.{length, take, drop}
 use borrow.Author.Tests.{ltb-true, ltb-false}
@@ -34,7 +35,7 @@ use Rattle.tender.specs.Calls.{answered, Receives}
 
 -- refused: no errors, no reply, the tender and the space as they were
 module _ (t : Tender) (g : Given t) (x : Reception) (r : Received)
-    (none-listed : listed (r .errors) ≡ []) (zero-long : r .length ≡ 0) (same : r .tender ≡ t) where
+    (none-listed : listed (r .errors) ≡ []) (none-there : r .errors .n ≡ 0) (zero-long : r .length ≡ 0) (same : r .tender ≡ t) where
   as-refused : (n : ℕ) → numberOf (r .refusal) ≡ some n → receivingRefused (viewed t) x ≡ some n → Receives t (receive (viewed t) x) r (x .space)
   unfolding receive answerUnless
   as-refused n e h =
@@ -43,6 +44,7 @@ module _ (t : Tender) (g : Given t) (x : Reception) (r : Received)
         equal = (λ i. (answer i, viewed (same i), x .space)) ∙ sym (ap (λ (l : Option ℕ). answerUnless l (viewed t) x) h);
         errors-are = none-listed ∙ sym (ap errorsIn answer);
         length-is = zero-long ∙ sym (ap lengthIn answer);
+        few = omega (arith, none-there);
         unchanged = same ∙ sym (ap (λ (a : rules.Answer). unlessConfirmed a t (r .tender)) answer);
         given = subst Given (sym same) g;
       }
@@ -99,7 +101,7 @@ some-listed codes n h = go (ltb 0 n) refl
 -- not refused: what the message left in the book, and its reply
 module _ (t : Tender) (g : Given t) (x : Reception) (e : Errors) (n : ℕ) (next : Book) (after : List ℕ)
     (left : _≡_ {A = List Error × List Entry} (listed e, book.viewed next) (submitted (viewed t .terms) (viewed t .book) x))
-    (same : 0 < e .n → next ≡ t .book)
+    (same : 0 < e .n → next ≡ t .book) (few : e .n ≤ 16)
     (wrote : Wrote (x .space) 0 (reply (listed e) (t .terms .identifier) (x .message) (x .time)) after n) where
   abbrev errors : List Error
   errors = returnedErrors (viewed t .terms) (viewed t .book) x
@@ -136,6 +138,7 @@ module _ (t : Tender) (g : Given t) (x : Reception) (e : Errors) (n : ℕ) (next
         equal = λ i. (answer i, tender-is i, (bytes ∙ ap (λ (es : List Error). inSpace (text es) (x .space)) found) i);
         errors-are = errors-told (listed e) n;
         length-is = length-told (listed e) n;
+        few = few;
         unchanged = unchanged-told (listed e) n t tender (λ h. ap (λ (b : Book). record { state = t .state; terms = t .terms; book = b }) (same (some-listed (e .codes) (e .n) h)));
         given = record { rises = ap rising codes ∙ g .rises };
       }

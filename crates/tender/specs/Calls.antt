@@ -3,7 +3,7 @@
 use mathlib.Core.Path.{_≡_}
 use mathlib.Core.List.{List, [], _∷_}
 use mathlib.Core.Option.{Option}
-use Prim.Native.Nat.{ℕ}
+use Prim.Native.Nat.{ℕ, _≤_}
 use Rattle.envelope.specs.Refusals.{firstHolding, unlessRefused}
 use Rattle.rules.specs.Receiving.{Reception, returnedErrors}
 use Rattle.rules.specs.Calls as rules
@@ -33,6 +33,7 @@ pub record Receives (t : Tender) (expected : rules.Answer × rules.Tender × Lis
   pub equal : (answerOf r, viewed (r .tender), after) ≡ expected
   pub errors-are : listed (r .errors) ≡ errorsIn (answerOf r)
   pub length-is : r .length ≡ lengthIn (answerOf r)
+  pub few : r .errors .n ≤ 16
   pub unchanged : r .tender ≡ unlessConfirmed (answerOf r) t (r .tender)
   pub given : Given (r .tender)
 

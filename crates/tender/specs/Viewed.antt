@@ -11,12 +11,11 @@ use Rattle.rules.specs.Calls as rules
 use Rattle.errors.specs.Listed.{listed}
 use Rattle.terms.specs.declared.Terms.{Terms}
 use Rattle.terms.specs.Viewed as terms
-use Rattle.bids.specs.Columns.{noAmount}
+use Rattle.bids.specs.Columns.{noAmount, cents}
 use Rattle.book.specs.declared.Book.{Book}
 use Rattle.book.specs.Viewed as book
 use Rattle.marginal.specs.declared.MarginalRate.the-variants as rate
 use Rattle.marginal.specs.Ranks.{rateIn}
-use Rattle.allotment.specs.Allotted.{cents}
 use Rattle.tender.specs.declared.State.{State}
 use Rattle.tender.specs.declared.State.the-variants as state
 use Rattle.tender.specs.declared.Refusal.{Refusal}

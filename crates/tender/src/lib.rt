@@ -21,7 +21,7 @@ use terms::Terms;
 use terms::is_opened;
 ghost use mathlib.Core.Path.{_≡_};
 ghost use mathlib.Core.List.{[], _∷_};
-ghost use Rattle.envelope.specs.Refusals.{firstHolding};
+ghost use Rattle.envelope.specs.Refusals.{firstHolding, orZero};
 ghost use Rattle.rules.specs.Calls.{clockInvalid, receive, close, revoke};
 ghost use Rattle.errors.specs.Listed.{listed};
 ghost use Rattle.checks.specs.Columns.{received};
@@ -117,7 +117,7 @@ pub fn open(m: &[u8], codes: &[u32]) -> Opened
 }
 
 // Whether a refusal is one.
-fn is_refused(r: Refusal) -> bool
+pub fn is_refused(r: Refusal) -> bool
     ensures { λ b. ⌜ b ≡ isSome (numberOf r) ⌝ }
 {
     match r {
@@ -131,6 +131,24 @@ fn is_refused(r: Refusal) -> bool
         Refusal::Open => true,
         Refusal::Announced => true,
         Refusal::BidsExceed => true,
+    }
+}
+
+// Document 01's number of a refusal, and zero where there is none.
+pub fn number_of(r: Refusal) -> u64
+    ensures { λ n. ⌜ n ≡ orZero (numberOf r) ⌝ }
+{
+    match r {
+        Refusal::None => 0,
+        Refusal::Revoked => 8,
+        Refusal::Over => 9,
+        Refusal::ClockInvalid => 10,
+        Refusal::SpaceShort => 11,
+        Refusal::Unreadable => 12,
+        Refusal::BeforeCutOff => 13,
+        Refusal::Open => 14,
+        Refusal::Announced => 15,
+        Refusal::BidsExceed => 16,
     }
 }
 
@@ -168,7 +186,7 @@ fn in_state(t: Tender, state: State) -> Tender
 
 // A reception refused: no errors, no reply and the tender as it was.
 fn unreceived(t: Tender, refusal: Refusal) -> Received
-    ensures { λ r. ⌜ (r .refusal ≡ refusal) × (listed (r .errors) ≡ []) × (r .length ≡ 0) × (r .tender ≡ t) ⌝ }
+    ensures { λ r. ⌜ (r .refusal ≡ refusal) × (listed (r .errors) ≡ []) × (r .errors .n ≡ 0) × (r .length ≡ 0) × (r .tender ≡ t) ⌝ }
 {
     Received {
         refusal,

@@ -24,6 +24,7 @@ ghost use Prim.Native.Nat.{ℕ, _<_};
 ghost use lib.ListN.{length};
 ghost use Rattle.layout.specs.Fields.{readable};
 ghost use Rattle.envelope.specs.Announcement.{layout6G0};
+ghost use Rattle.envelope.specs.Refusals.{orZero};
 ghost use Rattle.rules.specs.Opening.{isDate, isTime, wellFormed, otherOrigin, isUnknown, impossible, badCodes, openingRefused, sideOf, termsOf, noTerms};
 ghost use Rattle.terms.specs.Viewed.{referencesFormed, datesFormed, risesFrom, datesInOrder, openRefusal, isOpened, viewed, admittedIn, opening};
 
@@ -304,6 +305,22 @@ pub fn is_opened(a: OpenAnswer) -> bool
         OpenAnswer::Impossible => false,
         OpenAnswer::Disordered => false,
         OpenAnswer::BadCodes => false,
+    }
+}
+
+// Document 01's number of an answer, and zero where the tender is opened.
+pub fn number_of_answer(a: OpenAnswer) -> u64
+    ensures { λ r. ⌜ r ≡ orZero (openRefusal a) ⌝ }
+{
+    match a {
+        OpenAnswer::Opened => 0,
+        OpenAnswer::NotAnnouncement => 1,
+        OpenAnswer::OtherOrigin => 2,
+        OpenAnswer::Malformed => 3,
+        OpenAnswer::UnknownType => 4,
+        OpenAnswer::Impossible => 5,
+        OpenAnswer::Disordered => 6,
+        OpenAnswer::BadCodes => 7,
     }
 }
 

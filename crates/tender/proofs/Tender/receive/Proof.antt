@@ -44,7 +44,7 @@ returns c =
     let e = c .unreceived .ensures in
     let refused : isSome (numberOf (n .not-open .result)) ≡ true = sym (c .before .before .is-refused .ensures) ∙ c .before .if1 .taken in
     let number = refused-first ((8, isRevoked t) ∷ (9, isOver t) ∷ (10, clockInvalid (a .date) (a .time)) ∷ []) ((11, spaceShort (x .space)) ∷ (12, unreadable (x .message)) ∷ []) (numberOf (n .not-open .result)) (n .not-open .ensures) refused in
-    receives-refused (a .self) (start .pre) x (c .unreceived .result) (e .1) (e .2) (e .3) (n .not-open .result) (e .0) number refused
+    receives-refused (a .self) (start .pre) x (c .unreceived .result) (e .1) (e .2) (e .3) (e .4) (n .not-open .result) (e .0) number refused
 
 unreceived-requires-2 : tie.Need-unreceived-requires-2
 unreceived-requires-2 c κs = search needs
@@ -71,7 +71,7 @@ returns-2 c =
     let x = receptionAt start in
     let e = c .unreceived2 .ensures in
     let number = asked-then l ∙ ap (λ (b : Bool). firstHolding ((11, b) ∷ (12, unreadable (x .message)) ∷ [])) (lt-ltb (length (x .space)) 418 (c .before .if2 .taken)) in
-    receives-refused (a .self) (start .pre) x (c .unreceived2 .result) (e .1) (e .2) (e .3) refusal.SpaceShort (e .0) number refl
+    receives-refused (a .self) (start .pre) x (c .unreceived2 .result) (e .1) (e .2) (e .3) (e .4) refusal.SpaceShort (e .0) number refl
 
 read-requires : tie.Need-read-requires
 read-requires c κs = search needs
@@ -122,7 +122,7 @@ returns-3 c =
     let x = receptionAt start in
     let e = c .unreceived3 .ensures in
     let number = asked-last (r .before) ∙ number-read (x .message) (r .read .result .answer) (r .read .result .fields) (r .read .ensures) ∙ ap readRefusal (c .before .enum-told .given .1) in
-    receives-refused (a .self) (start .pre) x (c .unreceived3 .result) (e .1) (e .2) (e .3) refusal.Unreadable (e .0) number refl
+    receives-refused (a .self) (start .pre) x (c .unreceived3 .result) (e .1) (e .2) (e .3) (e .4) refusal.Unreadable (e .0) number refl
 
 same-length : tie.Need-same-length
 same-length c = search needs

@@ -33,6 +33,7 @@ returns c =
     (p .put-reply .last .0)
     (s .submit .ensures .0 (now (a .space)))
     (s .submit .ensures .1)
+    (s .submit .ensures .2)
     (p .put-reply .ensures)
 
 pub answer-spec : {M : Type 1} → statement M

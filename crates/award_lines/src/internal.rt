@@ -1,0 +1,79 @@
+// Lines written into a lent space from an index on.
+use book::Book;
+use book::up_to_64;
+use digits::internal::put_digits;
+use output::internal::put;
+use output::internal::put_byte;
+use places::Amount;
+use places::Rate;
+ghost use mathlib.Core.Path.{_≡_};
+ghost use mathlib.Core.Bool.{cond};
+ghost use mathlib.Core.List.{[], map};
+ghost use Prim.Native.Nat.{_+_, _≤_};
+ghost use lib.Dec.{ltb};
+ghost use lib.ListN.{length};
+ghost use Rattle.output.specs.Output.{Wrote};
+ghost use Rattle.bids.specs.Columns.{cents};
+ghost use Rattle.book.specs.Viewed.{viewed};
+ghost use Rattle.log.specs.Lines.{awardLine, awardLines};
+ghost use Rattle.award_lines.specs.Places.{placeText};
+
+// Writes code and place of an award.
+fn put_place(space: &mut [u8], at: usize, code: u64, place: u64) -> usize
+    requires { ⌜ at + 10 ≤ length (now space) ⌝ }
+    ensures { λ r. ⌜ Wrote (now (space .entry)) at (placeText code place) (now (space .exit)) r × (r ≡ at + 10) ⌝ }
+{
+    let number = put(space, at, b"W ");
+    let blank = put_digits(space, number, 5, code);
+    let second = put_byte(space, blank, b' ');
+    put_digits(space, second, 2, place)
+}
+
+// Writes the line of an award.
+fn put_award(space: &mut [u8], at: usize, code: u64, place: u64, rate: Rate, award: Amount) -> usize
+    requires { ⌜ at + 36 ≤ length (now space) ⌝ }
+    ensures { λ r. ⌜ Wrote (now (space .entry)) at (awardLine code place (rate .0) (award .0)) (now (space .exit)) r × (r ≡ at + 36) ⌝ }
+{
+    let first = put_place(space, at, code, place);
+    let number = put_byte(space, first, b' ');
+    let second = put_digits(space, number, 8, rate.0 as u64);
+    let cents = put_byte(space, second, b' ');
+    let end = put_digits(space, cents, 15, award.0);
+    put_byte(space, end, b'\n')
+}
+
+// Writes the line of an award above zero, and nothing for another.
+fn put_if_any(
+    space: &mut [u8],
+    at: usize,
+    code: u64,
+    place: u64,
+    rate: Rate,
+    award: Amount,
+) -> usize
+    requires { ⌜ at + 36 ≤ length (now space) ⌝ }
+    ensures { λ r. ⌜ Wrote (now (space .entry)) at (cond (ltb 0 (award .0)) (awardLine code place (rate .0) (award .0)) []) (now (space .exit)) r × (r ≤ at + 36) ⌝ }
+{
+    if 0 < award.0 {
+        return put_award(space, at, code, place, rate, award);
+    }
+    at
+}
+
+// Writes the lines of all awards above zero, in book order, at the start of the space.
+pub fn put_awards(space: &mut [u8], b: Book, awards: [Amount; 640]) -> usize
+    requires { ⌜ 23040 ≤ length (now space) ⌝ }
+    ensures { λ r. ⌜ Wrote (now (space .entry)) 0 (awardLines (viewed b) (map cents awards)) (now (space .exit)) r ⌝ }
+{
+    let end = 10 * up_to_64(b.n);
+    let mut at = 0;
+    let mut i = 0;
+    while i < end {
+        let code = b.codes[i / 10] as u64;
+        let rate = b.rates[i];
+        let award = awards[i];
+        at = put_if_any(space, at, code, (i % 10 + 1) as u64, rate, award);
+        i += 1;
+    }
+    at
+}

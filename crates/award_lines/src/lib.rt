@@ -1,0 +1,2 @@
+// The lines of the awards of a book.
+pub mod internal;

@@ -1,0 +1,2 @@
+// The lines of receptions and refusals.
+pub mod internal;
