@@ -44,7 +44,7 @@ pub kept-old : {A : Type 0} (l : Option ℕ) (old new : A) → isSome l ≡ true
 kept-old none old new h = absurd (false≢true h)
 kept-old (some n) old new h = refl
 
-none-of : (l : Option ℕ) → isSome l ≡ false → l ≡ none
+pub none-of : (l : Option ℕ) → isSome l ≡ false → l ≡ none
 none-of none h = refl
 none-of (some n) h = absurd (false≢true (sym h))
 

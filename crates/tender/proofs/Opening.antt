@@ -23,7 +23,7 @@ use Rattle.book.proofs.Joining.{new-codes}
 use Rattle.tender.specs.declared.State.the-variants as state
 use Rattle.tender.specs.Calls.{Opens}
 
-opened-none : (a : OpenAnswer) → isOpened a ≡ true → openRefusal a ≡ none
+pub opened-none : (a : OpenAnswer) → isOpened a ≡ true → openRefusal a ≡ none
 opened-none Opened h = refl
 opened-none NotAnnouncement h = absurd (false≢true h)
 opened-none OtherOrigin h = absurd (false≢true h)
@@ -33,7 +33,7 @@ opened-none Impossible h = absurd (false≢true h)
 opened-none Disordered h = absurd (false≢true h)
 opened-none BadCodes h = absurd (false≢true h)
 
-refused-some : (a : OpenAnswer) → isOpened a ≡ false → (n : ℕ) × (openRefusal a ≡ some n)
+pub refused-some : (a : OpenAnswer) → isOpened a ≡ false → (n : ℕ) × (openRefusal a ≡ some n)
 refused-some Opened h = absurd (false≢true (sym h))
 refused-some NotAnnouncement h = (1, refl)
 refused-some OtherOrigin h = (2, refl)
