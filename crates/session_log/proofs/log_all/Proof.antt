@@ -1,0 +1,65 @@
+-- `session_log::log_all` meets its contract: the turns fall, and each takes a journal that a step gave. Assumes nothing.
+use borrow.Author.Needs.{needs}
+use mathlib.Core.Path.{_≡_, refl}
+use Prim.Native.Nat.{_<_}
+use native.Mathlib.Omega.{arith}
+use borrow.Author.Tests.{ltb-true}
+use lib.Dec.{ltb}
+use lib.ListN.{length}
+use Rattle.laws.proofs.Tests.{and-left}
+use Rattle.journal.specs.Viewed.{Given}
+use Rattle.session_log.proofs.log_all.Statement.{statement}
+use Rattle.session_log.proofs.log_all.Tie as tie
+
+abbrev Inv-loop : tie.InvT-loop
+Inv-loop content₀ lines₀ now₀ turns₀ content lines now turns = (length content ≡ length content₀) × (length lines ≡ length lines₀) × Given (now .journal)
+
+abbrev μ-loop : tie.MeasureT-loop
+μ-loop content₀ lines₀ now₀ turns₀ content lines now turns = turns
+
+start-requires : tie.Need-start-requires Inv-loop μ-loop
+start-requires c κs = search needs
+
+loop-holds : tie.Need-loop-holds Inv-loop μ-loop
+loop-holds c = (refl, refl, c .start .ensures .1)
+
+next-field-requires : tie.Need-next-field-requires Inv-loop μ-loop
+next-field-requires c κs = c .before .before .before .before .before .loop .inv .2
+
+-- a turn is left
+some : (c : tie.Then1 Inv-loop μ-loop) → 0 < c .before .before .loop .turns
+some c = ltb-true 0 (c .before .before .loop .turns) (and-left (ltb 0 (c .before .before .loop .turns)) (c .before .before .loop .now .more) (c .if1 .taken))
+
+sub-turns : tie.Need-sub-turns Inv-loop μ-loop
+sub-turns c = some (c .before .before .before .before .before .before .before .before)
+
+loop-less : tie.Need-loop-less Inv-loop μ-loop
+loop-less c = omega (arith, some (c .before .before .before .before .before .before .before .before))
+
+loop-again : tie.Need-loop-again Inv-loop μ-loop
+loop-again c = (omega arith, omega arith, c .before .before .before .before .next-field .ensures)
+
+same-length : tie.Need-same-length Inv-loop μ-loop
+same-length c = omega arith
+
+same-length-2 : tie.Need-same-length-2 Inv-loop μ-loop
+same-length-2 c = omega arith
+
+returns : tie.Need-returns Inv-loop μ-loop
+returns c = search needs
+
+pub log-all-spec : {M : Type 1} → statement M
+log-all-spec =
+    tie.close
+    (tie.spec
+    Inv-loop
+    μ-loop
+    start-requires
+    loop-holds
+    next-field-requires
+    sub-turns
+    loop-less
+    loop-again
+    same-length
+    same-length-2
+    returns)
