@@ -4,7 +4,6 @@ use crate::Served;
 use bids::Bid;
 use division::internal::divide;
 use offer::Offer;
-use offer::internal::bid_at;
 use offer::internal::total_better;
 use offer::internal::total_equal;
 use offer::internal::where_holds;
@@ -103,7 +102,10 @@ fn serve_all(
     let mut shared = 0;
     let mut i = 0;
     while i < 640 {
-        let bid = bid_at(rates, amounts, i);
+        let bid = Bid {
+            rate: rates[i],
+            amount: amounts[i],
+        };
         let award = serve(o, bid, last, b, e);
         awards[i] = award;
         shared += where_holds(stands_equal(o, bid, last), award.0);
@@ -131,7 +133,10 @@ fn add_cents(
     let mut left = cents;
     let mut i = 0;
     while i < 640 {
-        let bid = bid_at(rates, amounts, i);
+        let bid = Bid {
+            rate: rates[i],
+            amount: amounts[i],
+        };
         let c = cent(o, bid, last, left);
         let award = Amount(awards[i].0 + c);
         awards[i] = award;

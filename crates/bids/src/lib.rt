@@ -1,7 +1,4 @@
 // The checks of an application's ten bids.
-pub mod internal;
-
-use internal::bid_at;
 use places::Amount;
 use places::Rate;
 ghost use mathlib.Core.Path.{_≡_};
@@ -70,7 +67,11 @@ pub fn has_gap(rates: [Rate; 10], amounts: [Amount; 10]) -> bool
     let mut ended = false;
     let mut k = 0;
     while k < 10 {
-        let bid = is_filled(bid_at(rates, amounts, k));
+        let b = Bid {
+            rate: rates[k],
+            amount: amounts[k],
+        };
+        let bid = is_filled(b);
         found = found | (ended & bid);
         ended = ended | !bid;
         k += 1;
@@ -95,7 +96,11 @@ pub fn count(rates: [Rate; 10], amounts: [Amount; 10]) -> u64
     let mut n = 0u64;
     let mut k = 0;
     while k < 10 {
-        n += one_if(is_filled(bid_at(rates, amounts, k)));
+        let b = Bid {
+            rate: rates[k],
+            amount: amounts[k],
+        };
+        n += one_if(is_filled(b));
         k += 1;
     }
     n
@@ -108,7 +113,11 @@ pub fn any_fine(rates: [Rate; 10], amounts: [Amount; 10]) -> bool
     let mut found = false;
     let mut k = 0;
     while k < 10 {
-        found = found | is_fine(bid_at(rates, amounts, k));
+        let b = Bid {
+            rate: rates[k],
+            amount: amounts[k],
+        };
+        found = found | is_fine(b);
         k += 1;
     }
     found
@@ -121,7 +130,11 @@ pub fn any_small(rates: [Rate; 10], amounts: [Amount; 10], minimum: Amount) -> b
     let mut found = false;
     let mut k = 0;
     while k < 10 {
-        found = found | is_small(bid_at(rates, amounts, k), minimum);
+        let b = Bid {
+            rate: rates[k],
+            amount: amounts[k],
+        };
+        found = found | is_small(b, minimum);
         k += 1;
     }
     found
@@ -139,7 +152,11 @@ pub fn any_uneven(
     let mut found = false;
     let mut k = 0;
     while k < 10 {
-        found = found | is_uneven(bid_at(rates, amounts, k), minimum, increment);
+        let b = Bid {
+            rate: rates[k],
+            amount: amounts[k],
+        };
+        found = found | is_uneven(b, minimum, increment);
         k += 1;
     }
     found
@@ -163,7 +180,7 @@ pub fn is_over(rates: [Rate; 10], amounts: [Amount; 10], maximum: Amount) -> boo
     let mut left = maximum.0;
     let mut k = 0;
     while k < 10 {
-        let amount = bid_at(rates, amounts, k).amount.0;
+        let amount = amounts[k].0;
         over = over | (left < amount);
         left = less(left, amount);
         k += 1;

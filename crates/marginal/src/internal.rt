@@ -4,7 +4,6 @@ use crate::MarginalRate;
 use bids::Bid;
 use envelope::announcement::Side;
 use offer::Offer;
-use offer::internal::bid_at;
 use offer::is_in;
 use places::Amount;
 use places::Rate;
@@ -49,7 +48,10 @@ pub fn keys_in(o: Offer, rates: [Rate; 640], amounts: [Amount; 640]) -> Keys
     let mut n = 0;
     let mut i = 0;
     while i < 640 {
-        let b = bid_at(rates, amounts, i);
+        let b = Bid {
+            rate: rates[i],
+            amount: amounts[i],
+        };
         keys[n] = key(side, b.rate, i);
         n += one_in(o, b);
         i += 1;
@@ -77,7 +79,10 @@ pub fn first_reaching(
             break MarginalRate::None;
         }
         let i = (keys[j] % 1024) as usize;
-        let b = bid_at(rates, amounts, i);
+        let b = Bid {
+            rate: rates[i],
+            amount: amounts[i],
+        };
         sum += b.amount.0;
         if o.offered.0 <= sum {
             let rate = b.rate;

@@ -7,21 +7,10 @@ use places::Amount;
 use places::Rate;
 ghost use mathlib.Core.Path.{_≡_};
 ghost use mathlib.Core.Bool.{cond};
-ghost use Prim.Native.Nat.{_<_, _≤_};
+ghost use Prim.Native.Nat.{_≤_};
 ghost use Rattle.rules.specs.Allotment.{total, totalBetter, totalEqual};
-ghost use Rattle.bids.specs.Columns.{bidAt, bidsFrom};
-ghost use Rattle.bids.specs.Columns as columns;
+ghost use Rattle.bids.specs.Columns.{bidsFrom};
 ghost use Rattle.offer.specs.Viewed.{viewed, mostBids};
-
-// The bid at an index.
-pub fn bid_at(rates: [Rate; 640], amounts: [Amount; 640], i: usize) -> Bid
-    requires { ⌜ i < 640 ⌝ }
-    ensures { λ r. ⌜ columns.viewed r ≡ bidAt rates amounts i ⌝ }
-{
-    let rate = rates[i];
-    let amount = amounts[i];
-    Bid { rate, amount }
-}
 
 // A number where a condition holds, else zero.
 pub fn where_holds(condition: bool, n: u64) -> u64
@@ -41,7 +30,10 @@ pub fn total_better(o: Offer, rates: [Rate; 640], amounts: [Amount; 640], rate: 
     let mut sum = 0;
     let mut i = 0;
     while i < 640 {
-        let b = bid_at(rates, amounts, i);
+        let b = Bid {
+            rate: rates[i],
+            amount: amounts[i],
+        };
         sum += where_holds(stands_better(o, b, rate), b.amount.0);
         i += 1;
     }
@@ -56,7 +48,10 @@ pub fn total_equal(o: Offer, rates: [Rate; 640], amounts: [Amount; 640], rate: R
     let mut sum = 0;
     let mut i = 0;
     while i < 640 {
-        let b = bid_at(rates, amounts, i);
+        let b = Bid {
+            rate: rates[i],
+            amount: amounts[i],
+        };
         sum += where_holds(stands_equal(o, b, rate), b.amount.0);
         i += 1;
     }

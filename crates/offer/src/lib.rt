@@ -5,7 +5,6 @@ use bids::Bid;
 use bids::is_filled;
 use bids::less;
 use envelope::announcement::Side;
-use internal::bid_at;
 use places::Amount;
 use places::Rate;
 ghost use mathlib.Core.Path.{_≡_};
@@ -63,7 +62,7 @@ pub fn exceeds(rates: [Rate; 640], amounts: [Amount; 640]) -> bool
     let mut left = 999_999_999_999_999_999;
     let mut i = 0;
     while i < 640 {
-        let amount = bid_at(rates, amounts, i).amount.0;
+        let amount = amounts[i].0;
         over = over | (left < amount);
         left = less(left, amount);
         i += 1;

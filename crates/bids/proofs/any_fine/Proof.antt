@@ -8,7 +8,7 @@ use lib.ListN.{length, drop}
 use Rattle.rules.specs.Opening.{any}
 use Rattle.rules.specs.Receiving.{fineRate}
 use Rattle.bids.specs.Columns.{bidsFrom}
-use Rattle.bids.proofs.Columns.{length-bids}
+use Rattle.bids.proofs.Columns.{length-bids, bid-is}
 use Rattle.bids.proofs.Loops.{any-more, any-end}
 use Rattle.bids.proofs.any_fine.Statement.{statement}
 use Rattle.bids.proofs.any_fine.Tie as tie
@@ -22,8 +22,17 @@ abbrev μ-loop : tie.MeasureT-loop
 loop-holds : tie.Need-loop-holds Inv-loop μ-loop
 loop-holds c = (omega arith, refl)
 
-bid-at-requires : tie.Need-bid-at-requires Inv-loop μ-loop
-bid-at-requires c κs = omega arith
+mul-t9 : tie.Need-mul-t9 Inv-loop μ-loop
+mul-t9 c = omega arith
+
+array-copy-out-t12 : tie.Need-array-copy-out-t12 Inv-loop μ-loop
+array-copy-out-t12 c = omega arith
+
+mul-t13 : tie.Need-mul-t13 Inv-loop μ-loop
+mul-t13 c = omega arith
+
+array-copy-out-t16 : tie.Need-array-copy-out-t16 Inv-loop μ-loop
+array-copy-out-t16 c = omega arith
 
 is-fine-requires : tie.Need-is-fine-requires Inv-loop μ-loop
 is-fine-requires c κs = search needs
@@ -34,17 +43,17 @@ add-k c = omega arith
 loop-less : tie.Need-loop-less Inv-loop μ-loop
 loop-less c = omega arith
 
-ten : (c : tie.Start Inv-loop μ-loop) → length (bidsFrom (c .args .rates) (c .args .amounts) 0 10) ≡ 10
-ten c = length-bids (c .args .rates) (c .args .amounts) 0 10
+ten : (c : tie.Start Inv-loop μ-loop) → length (bidsFrom (c .args .t1) (c .args .t2) 0 10) ≡ 10
+ten c = length-bids (c .args .t1) (c .args .t2) 0 10
 
 loop-again : tie.Need-loop-again Inv-loop μ-loop
 loop-again c =
-    let start = c .before .before .before .before in
+    let start = c .before .before .before .before .before in
     let a = start .args in
-    let l = c .before .before .before .loop in
-    let bs = bidsFrom (a .rates) (a .amounts) 0 10 in
+    let l = c .before .before .before .before .loop in
+    let bs = bidsFrom (a .t1) (a .t2) 0 10 in
     let p = fineRate in
-    let e = c .is-fine .ensures ∙ ap p (c .before .bid-at .ensures) in
+    let e = c .is-fine .ensures ∙ ap p (sym (bid-is (a .t1) (a .t2) 10 (l .k) (omega arith))) in
     (omega arith, ap (λ (t : Bool). (l .found || t) || any p (drop (l .k + 1) bs)) e ∙ any-more p (l .found) bs (l .k) (omega (arith, ten start)) ∙ l .inv .1)
 
 returns : tie.Need-returns Inv-loop μ-loop
@@ -52,7 +61,7 @@ returns c =
     let start = c .before .before in
     let a = start .args in
     let l = c .before .loop in
-    sym (any-end fineRate (l .found) (bidsFrom (a .rates) (a .amounts) 0 10) (l .k) (omega (arith, ten start))) ∙ l .inv .1
+    sym (any-end fineRate (l .found) (bidsFrom (a .t1) (a .t2) 0 10) (l .k) (omega (arith, ten start))) ∙ l .inv .1
 
 pub any-fine-spec : {M : Type 1} → statement M
 any-fine-spec =
@@ -61,7 +70,10 @@ any-fine-spec =
     Inv-loop
     μ-loop
     loop-holds
-    bid-at-requires
+    mul-t9
+    array-copy-out-t12
+    mul-t13
+    array-copy-out-t16
     is-fine-requires
     add-k
     loop-less

@@ -8,22 +8,31 @@ use lib.ListN.{length, drop}
 use Rattle.rules.specs.Opening.{any}
 use Rattle.rules.specs.Receiving.{unevenBid}
 use Rattle.bids.specs.Columns.{bidsFrom}
-use Rattle.bids.proofs.Columns.{length-bids}
+use Rattle.bids.proofs.Columns.{length-bids, bid-is}
 use Rattle.bids.proofs.Loops.{any-more, any-end}
 use Rattle.bids.proofs.any_uneven.Statement.{statement}
 use Rattle.bids.proofs.any_uneven.Tie as tie
 
 abbrev Inv-loop : tie.InvT-loop
-Inv-loop rates amounts minimum increment found₀ k₀ found k = (k ≤ 10) × ((found || any (unevenBid (minimum .0) (increment .0)) (drop k (bidsFrom rates amounts 0 10))) ≡ any (unevenBid (minimum .0) (increment .0)) (bidsFrom rates amounts 0 10))
+Inv-loop minimum increment rates amounts found₀ k₀ found k = (k ≤ 10) × ((found || any (unevenBid (minimum .0) (increment .0)) (drop k (bidsFrom rates amounts 0 10))) ≡ any (unevenBid (minimum .0) (increment .0)) (bidsFrom rates amounts 0 10))
 
 abbrev μ-loop : tie.MeasureT-loop
-μ-loop rates amounts minimum increment found₀ k₀ found k = 10 - k
+μ-loop minimum increment rates amounts found₀ k₀ found k = 10 - k
 
 loop-holds : tie.Need-loop-holds Inv-loop μ-loop
 loop-holds c = (omega arith, refl)
 
-bid-at-requires : tie.Need-bid-at-requires Inv-loop μ-loop
-bid-at-requires c κs = omega arith
+mul-t11 : tie.Need-mul-t11 Inv-loop μ-loop
+mul-t11 c = omega arith
+
+array-copy-out-t14 : tie.Need-array-copy-out-t14 Inv-loop μ-loop
+array-copy-out-t14 c = omega arith
+
+mul-t15 : tie.Need-mul-t15 Inv-loop μ-loop
+mul-t15 c = omega arith
+
+array-copy-out-t18 : tie.Need-array-copy-out-t18 Inv-loop μ-loop
+array-copy-out-t18 c = omega arith
 
 is-uneven-requires : tie.Need-is-uneven-requires Inv-loop μ-loop
 is-uneven-requires c κs = search needs
@@ -34,17 +43,17 @@ add-k c = omega arith
 loop-less : tie.Need-loop-less Inv-loop μ-loop
 loop-less c = omega arith
 
-ten : (c : tie.Start Inv-loop μ-loop) → length (bidsFrom (c .args .rates) (c .args .amounts) 0 10) ≡ 10
-ten c = length-bids (c .args .rates) (c .args .amounts) 0 10
+ten : (c : tie.Start Inv-loop μ-loop) → length (bidsFrom (c .args .t1) (c .args .t2) 0 10) ≡ 10
+ten c = length-bids (c .args .t1) (c .args .t2) 0 10
 
 loop-again : tie.Need-loop-again Inv-loop μ-loop
 loop-again c =
-    let start = c .before .before .before .before in
+    let start = c .before .before .before .before .before in
     let a = start .args in
-    let l = c .before .before .before .loop in
-    let bs = bidsFrom (a .rates) (a .amounts) 0 10 in
+    let l = c .before .before .before .before .loop in
+    let bs = bidsFrom (a .t1) (a .t2) 0 10 in
     let p = (unevenBid (a .minimum .0) (a .increment .0)) in
-    let e = c .is-uneven .ensures ∙ ap p (c .before .bid-at .ensures) in
+    let e = c .is-uneven .ensures ∙ ap p (sym (bid-is (a .t1) (a .t2) 10 (l .k) (omega arith))) in
     (omega arith, ap (λ (t : Bool). (l .found || t) || any p (drop (l .k + 1) bs)) e ∙ any-more p (l .found) bs (l .k) (omega (arith, ten start)) ∙ l .inv .1)
 
 returns : tie.Need-returns Inv-loop μ-loop
@@ -52,7 +61,7 @@ returns c =
     let start = c .before .before in
     let a = start .args in
     let l = c .before .loop in
-    sym (any-end (unevenBid (a .minimum .0) (a .increment .0)) (l .found) (bidsFrom (a .rates) (a .amounts) 0 10) (l .k) (omega (arith, ten start))) ∙ l .inv .1
+    sym (any-end (unevenBid (a .minimum .0) (a .increment .0)) (l .found) (bidsFrom (a .t1) (a .t2) 0 10) (l .k) (omega (arith, ten start))) ∙ l .inv .1
 
 pub any-uneven-spec : {M : Type 1} → statement M
 any-uneven-spec =
@@ -61,7 +70,10 @@ any-uneven-spec =
     Inv-loop
     μ-loop
     loop-holds
-    bid-at-requires
+    mul-t11
+    array-copy-out-t14
+    mul-t15
+    array-copy-out-t18
     is-uneven-requires
     add-k
     loop-less

@@ -7,7 +7,7 @@ use native.Mathlib.Omega.{arith}
 use lib.ListN.{length, drop, getD}
 use Rattle.rules.specs.Allotment.{noBid, filled, keep}
 use Rattle.bids.specs.Columns.{bidsFrom}
-use Rattle.bids.proofs.Columns.{length-bids}
+use Rattle.bids.proofs.Columns.{length-bids, bid-is}
 use Rattle.bids.proofs.Loops.{one-at-most, count-more, count-end}
 use Rattle.bids.proofs.count.Statement.{statement}
 use Rattle.bids.proofs.count.Tie as tie
@@ -21,8 +21,17 @@ abbrev μ-loop : tie.MeasureT-loop
 loop-holds : tie.Need-loop-holds Inv-loop μ-loop
 loop-holds c = (omega arith, omega arith, omega arith)
 
-bid-at-requires : tie.Need-bid-at-requires Inv-loop μ-loop
-bid-at-requires c κs = omega arith
+mul-t9 : tie.Need-mul-t9 Inv-loop μ-loop
+mul-t9 c = omega arith
+
+array-copy-out-t12 : tie.Need-array-copy-out-t12 Inv-loop μ-loop
+array-copy-out-t12 c = omega arith
+
+mul-t13 : tie.Need-mul-t13 Inv-loop μ-loop
+mul-t13 c = omega arith
+
+array-copy-out-t16 : tie.Need-array-copy-out-t16 Inv-loop μ-loop
+array-copy-out-t16 c = omega arith
 
 is-filled-requires : tie.Need-is-filled-requires Inv-loop μ-loop
 is-filled-requires c κs = search needs
@@ -39,15 +48,16 @@ add-k c = omega arith
 loop-less : tie.Need-loop-less Inv-loop μ-loop
 loop-less c = omega arith
 
-ten : (c : tie.Start Inv-loop μ-loop) → length (bidsFrom (c .args .rates) (c .args .amounts) 0 10) ≡ 10
-ten c = length-bids (c .args .rates) (c .args .amounts) 0 10
+ten : (c : tie.Start Inv-loop μ-loop) → length (bidsFrom (c .args .t1) (c .args .t2) 0 10) ≡ 10
+ten c = length-bids (c .args .t1) (c .args .t2) 0 10
 
 loop-again : tie.Need-loop-again Inv-loop μ-loop
 loop-again c =
-    let start = c .before .before .before .before .before in
-    let bs = bidsFrom (start .args .rates) (start .args .amounts) 0 10 in
-    let l = c .before .before .before .before .loop in
-    let e : c .one-if .result ≡ cond (filled (getD bs (l .k) noBid)) 1 0 = c .one-if .ensures ∙ ap (λ (b : Bool). cond b 1 0) (c .before .is-filled .ensures ∙ ap filled (c .before .before .bid-at .ensures)) in
+    let start = c .before .before .before .before .before .before in
+    let a = start .args in
+    let bs = bidsFrom (a .t1) (a .t2) 0 10 in
+    let l = c .before .before .before .before .before .loop in
+    let e : c .one-if .result ≡ cond (filled (getD bs (l .k) noBid)) 1 0 = c .one-if .ensures ∙ ap (λ (b : Bool). cond b 1 0) (c .before .is-filled .ensures ∙ ap filled (sym (bid-is (a .t1) (a .t2) 10 (l .k) (omega arith)))) in
     let small = one-at-most (filled (getD bs (l .k) noBid)) in
     let more = count-more bs (l .k) (omega (arith, ten start)) in
     (omega arith, omega arith, omega arith)
@@ -55,7 +65,7 @@ loop-again c =
 returns : tie.Need-returns Inv-loop μ-loop
 returns c =
     let start = c .before .before in
-    let bs = bidsFrom (start .args .rates) (start .args .amounts) 0 10 in
+    let bs = bidsFrom (start .args .t1) (start .args .t2) 0 10 in
     let none = count-end bs (c .before .loop .k) (omega (arith, ten start)) in
     omega arith
 
@@ -66,7 +76,10 @@ count-spec =
     Inv-loop
     μ-loop
     loop-holds
-    bid-at-requires
+    mul-t9
+    array-copy-out-t12
+    mul-t13
+    array-copy-out-t16
     is-filled-requires
     one-if-requires
     add-n

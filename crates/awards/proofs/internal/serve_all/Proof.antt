@@ -1,7 +1,7 @@
 -- `awards::internal::serve_all` meets its contract. The loop's invariant: the first awards are what their bids are served, and the sum is what those
 -- of them at the last rate are served. Assumes nothing.
 use borrow.Author.Needs.{needs}
-use mathlib.Core.Path.{_≡_, refl, sym, ap, _∙_}
+use mathlib.Core.Path.{_≡_, refl, sym, ap, ap₂, _∙_}
 use mathlib.Core.Bool.{Bool, cond}
 use mathlib.Core.List.{_++_}
 use Prim.Native.Nat.{ℕ, _+_, _-_, _≤_}
@@ -10,7 +10,6 @@ use lib.ListN.{take, drop, replicate, length-replicate}
 use Rattle.laws.proofs.Arrays.{fill-more, fill-all}
 use Rattle.rules.specs.Allotment.{isEqual}
 use Rattle.bids.specs.Columns.{noAmount, bidAt, bidsFrom}
-use Rattle.bids.specs.Columns as columns
 use Rattle.offer.specs.Viewed.{viewed}
 use Rattle.awards.specs.LastRate.{amountOf, served, servedAll, sharedAt}
 use Rattle.awards.proofs.Loops.{length-served, served-at, shared-more, shared-within}
@@ -18,23 +17,32 @@ use Rattle.awards.proofs.internal.serve_all.Statement.{statement}
 use Rattle.awards.proofs.internal.serve_all.Tie as tie
 
 abbrev Inv-loop : tie.InvT-loop
-Inv-loop o rates amounts last b e awards₀ shared₀ i₀ awards shared i =
+Inv-loop o last b e rates amounts awards₀ shared₀ i₀ awards shared i =
     (i ≤ 640)
     × (awards ≡ take i (servedAll (viewed o) (last .0) (b .0) (e .0) (bidsFrom rates amounts 0 640)) ++ drop i awards₀)
     × (shared ≡ sharedAt (viewed o) (last .0) (b .0) (e .0) (bidsFrom rates amounts 0 i))
 
 abbrev μ-loop : tie.MeasureT-loop
-μ-loop o rates amounts last b e awards₀ shared₀ i₀ awards shared i = 640 - i
+μ-loop o last b e rates amounts awards₀ shared₀ i₀ awards shared i = 640 - i
 
 loop-holds : tie.Need-loop-holds Inv-loop μ-loop
 unfolding bidsFrom sharedAt
 loop-holds c = (omega arith, refl, refl)
 
-bid-at-requires : tie.Need-bid-at-requires Inv-loop μ-loop
-bid-at-requires c κs = omega arith
+mul-t16 : tie.Need-mul-t16 Inv-loop μ-loop
+mul-t16 c = omega arith
+
+array-copy-out-t19 : tie.Need-array-copy-out-t19 Inv-loop μ-loop
+array-copy-out-t19 c = omega arith
+
+mul-t20 : tie.Need-mul-t20 Inv-loop μ-loop
+mul-t20 c = omega arith
+
+array-copy-out-t23 : tie.Need-array-copy-out-t23 Inv-loop μ-loop
+array-copy-out-t23 c = omega arith
 
 serve-requires : tie.Need-serve-requires Inv-loop μ-loop
-serve-requires c κs = c .before .before .before .pre .1
+serve-requires c κs = c .before .before .before .before .pre .1
 
 mul-awards : tie.Need-mul-awards Inv-loop μ-loop
 mul-awards c = omega arith
@@ -50,37 +58,31 @@ where-holds-requires c κs = search needs
 
 -- what the bid is served
 award-is : (c : tie.After-serve Inv-loop μ-loop)
-    → (let a = c .before .before .before .before .args in let b = bidAt (a .rates) (a .amounts) (c .before .before .before .loop .i) in
+    → (let a = c .before .before .before .before .before .args in
+    let b = bidAt (a .t2) (a .t3) (c .before .before .before .before .loop .i) in
     c .serve .result .0 ≡ served (viewed (a .o)) (a .last .0) (a .b .0) (a .e .0) b)
-award-is c =
-    let a = c .before .before .before .before .args in
-    let served-by = served (viewed (a .o)) (a .last .0) (a .b .0) (a .e .0) in
-    _∙_ {b = served-by (columns.viewed (c .before .bid-at .result))} (c .serve .ensures) (ap served-by (c .before .bid-at .ensures))
+award-is c = c .serve .ensures
 
 -- what the bid adds to the sum
 adds : (c : tie.After-where-holds Inv-loop μ-loop)
-    → (let a = c .before .before .before .before .before .before .args in
-    let b = bidAt (a .rates) (a .amounts) (c .before .before .before .before .before .loop .i) in
+    → (let a = c .before .before .before .before .before .before .before .args in
+    let b = bidAt (a .t2) (a .t3) (c .before .before .before .before .before .before .loop .i) in
     c .where-holds .result ≡ cond (isEqual (viewed (a .o)) (a .last .0) b) (served (viewed (a .o)) (a .last .0) (a .b .0) (a .e .0) b) 0)
 adds c =
-    let a = c .before .before .before .before .before .before .args in
     c .where-holds .ensures
-    ∙ ap (λ (t : Bool). cond t (c .before .before .serve .result .0) 0)
-    (c .before .stands-equal .ensures ∙ ap (isEqual (viewed (a .o)) (a .last .0)) (c .before .before .before .bid-at .ensures))
-    ∙ ap (λ (n : ℕ). cond (isEqual (viewed (a .o)) (a .last .0) (bidAt (a .rates) (a .amounts) (c .before .before .before .before .before .loop .i))) n 0)
-    (award-is (c .before .before))
+    ∙ ap₂ (λ (t : Bool) (n : ℕ). cond t n 0) (c .before .stands-equal .ensures) (award-is (c .before .before))
 
 add-shared : tie.Need-add-shared Inv-loop μ-loop
 add-shared c =
-    let start = c .before .before .before .before .before .before in
+    let start = c .before .before .before .before .before .before .before in
     let a = start .args in
-    let l = c .before .before .before .before .before .loop in
+    let l = c .before .before .before .before .before .before .loop in
     omega (
       arith,
       l .inv .2,
       adds c,
-      shared-more (viewed (a .o)) (a .last .0) (a .b .0) (a .e .0) (a .rates) (a .amounts) (l .i),
-      shared-within (viewed (a .o)) (a .last .0) (a .b .0) (a .e .0) (a .rates) (a .amounts) 640 (l .i + 1) (omega arith),
+      shared-more (viewed (a .o)) (a .last .0) (a .b .0) (a .e .0) (a .t2) (a .t3) (l .i),
+      shared-within (viewed (a .o)) (a .last .0) (a .b .0) (a .e .0) (a .t2) (a .t3) 640 (l .i + 1) (omega arith),
       start .pre .0,
     )
 
@@ -92,23 +94,23 @@ loop-less c = omega arith
 
 loop-again : tie.Need-loop-again Inv-loop μ-loop
 loop-again c =
-    let a = c .before .before .before .before .before .before .args in
-    let l = c .before .before .before .before .before .loop in
+    let a = c .before .before .before .before .before .before .before .args in
+    let l = c .before .before .before .before .before .before .loop in
     let o = viewed (a .o) in (
       omega arith,
       fill-more
-          (servedAll o (a .last .0) (a .b .0) (a .e .0) (bidsFrom (a .rates) (a .amounts) 0 640))
+          (servedAll o (a .last .0) (a .b .0) (a .e .0) (bidsFrom (a .t2) (a .t3) 0 640))
           (replicate 640 noAmount)
           (l .awards)
           (l .i)
           (c .before .before .serve .result)
           noAmount
-          (omega (arith, length-served o (a .last .0) (a .b .0) (a .e .0) (a .rates) (a .amounts) 640))
+          (omega (arith, length-served o (a .last .0) (a .b .0) (a .e .0) (a .t2) (a .t3) 640))
           (omega (arith, length-replicate 640 noAmount))
           (ap amountOf (award-is (c .before .before))
-          ∙ sym (served-at (a .rates) (a .amounts) 640 (l .i) (omega arith) o (a .last .0) (a .b .0) (a .e .0)))
+          ∙ sym (served-at (a .t2) (a .t3) 640 (l .i) (omega arith) o (a .last .0) (a .b .0) (a .e .0)))
           (l .inv .1),
-      omega (arith, l .inv .2, adds c, shared-more o (a .last .0) (a .b .0) (a .e .0) (a .rates) (a .amounts) (l .i)),
+      omega (arith, l .inv .2, adds c, shared-more o (a .last .0) (a .b .0) (a .e .0) (a .t2) (a .t3) (l .i)),
     )
 
 returns : tie.Need-returns Inv-loop μ-loop
@@ -119,12 +121,12 @@ returns c =
     let e : _≡_ {A = ℕ} (l .i) 640 = omega arith in (
       l .inv .1
           ∙ fill-all
-          (servedAll o (a .last .0) (a .b .0) (a .e .0) (bidsFrom (a .rates) (a .amounts) 0 640))
+          (servedAll o (a .last .0) (a .b .0) (a .e .0) (bidsFrom (a .t2) (a .t3) 0 640))
           (replicate 640 noAmount)
           (l .i)
-          (omega (arith, length-served o (a .last .0) (a .b .0) (a .e .0) (a .rates) (a .amounts) 640))
+          (omega (arith, length-served o (a .last .0) (a .b .0) (a .e .0) (a .t2) (a .t3) 640))
           (omega (arith, length-replicate 640 noAmount)),
-      l .inv .2 ∙ ap (λ (n : ℕ). sharedAt o (a .last .0) (a .b .0) (a .e .0) (bidsFrom (a .rates) (a .amounts) 0 n)) e,
+      l .inv .2 ∙ ap (λ (n : ℕ). sharedAt o (a .last .0) (a .b .0) (a .e .0) (bidsFrom (a .t2) (a .t3) 0 n)) e,
     )
 
 pub serve-all-spec : {M : Type 1} → statement M
@@ -134,7 +136,10 @@ serve-all-spec =
     Inv-loop
     μ-loop
     loop-holds
-    bid-at-requires
+    mul-t16
+    array-copy-out-t19
+    mul-t20
+    array-copy-out-t23
     serve-requires
     mul-awards
     array-set-from-awards
