@@ -1,0 +1,96 @@
+// Each call on a tender: its name, its answer and the tender after it are printed as one line.
+use crate::lines;
+use crate::spaces;
+use tender::Tender;
+ghost use Rattle.tender.specs.Viewed.{Given};
+
+// Opens a tender of an announcement, for the codes 90001 to 90003.
+pub fn opened(a: [u8; 225]) -> Tender
+    ensures { λ r. ⌜ Given r ⌝ }
+{
+    let codes = [90001u32, 90002, 90003];
+    tender::open(&a, &codes).tender
+}
+
+// Opens a tender.
+pub fn open(name: &[u8], a: [u8; 225], codes: &[u32]) -> Tender
+    ensures { λ r. ⌜ Given r ⌝ }
+{
+    let o = tender::open(&a, codes);
+    let answer = o.answer;
+    printing::text(name);
+    lines::opened(answer);
+    lines::state_after(o.tender);
+    o.tender
+}
+
+// Receives a message into a space of 420 bytes.
+pub fn receive(kind: u8, name: &[u8], t: Tender, m: &[u8], date: u64, time: u64) -> Tender
+    requires { ⌜ Given t ⌝ }
+    ensures { λ r. ⌜ Given r ⌝ }
+{
+    let mut space = [238u8; 420];
+    let r = t.receive(m, date, time, &mut space);
+    printing::text(name);
+    lines::received(r);
+    spaces::asked(kind, &space, r.length);
+    lines::state_after(r.tender);
+    r.tender
+}
+
+// Receives a message into a space of 417 bytes, and prints how many of them stay.
+pub fn receive_into_417(name: &[u8], t: Tender, m: &[u8], date: u64, time: u64) -> Tender
+    requires { ⌜ Given t ⌝ }
+    ensures { λ r. ⌜ Given r ⌝ }
+{
+    let mut space = [238u8; 417];
+    let r = t.receive(m, date, time, &mut space);
+    printing::text(name);
+    lines::received(r);
+    printing::number(spaces::untouched(&space));
+    lines::state_after(r.tender);
+    r.tender
+}
+
+// Closes a tender.
+pub fn close(name: &[u8], t: Tender, date: u64, time: u64) -> Tender
+    requires { ⌜ Given t ⌝ }
+    ensures { λ r. ⌜ Given r ⌝ }
+{
+    let r = t.close(date, time);
+    let refusal = r.refusal;
+    printing::text(name);
+    lines::changed(refusal);
+    lines::state_after(r.tender);
+    r.tender
+}
+
+// Revokes a tender.
+pub fn revoke(name: &[u8], t: Tender) -> Tender
+    requires { ⌜ Given t ⌝ }
+    ensures { λ r. ⌜ Given r ⌝ }
+{
+    let r = t.revoke();
+    let refusal = r.refusal;
+    printing::text(name);
+    lines::changed(refusal);
+    lines::state_after(r.tender);
+    r.tender
+}
+
+// Allots a tender, and prints the awards and the marginal rate too.
+pub fn allot(name: &[u8], t: Tender) -> Tender
+    requires { ⌜ Given t ⌝ }
+    ensures { λ r. ⌜ Given r ⌝ }
+{
+    let r = t.allot();
+    let refusal = r.refusal;
+    let awards = r.awards;
+    let marginal = r.marginal;
+    printing::text(name);
+    lines::changed(refusal);
+    lines::awards(t.book(), awards);
+    lines::marginal(marginal);
+    lines::state_after(r.tender);
+    r.tender
+}
