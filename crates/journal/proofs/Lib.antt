@@ -1,3 +1,4 @@
 pub mod Stepping
 pub mod Admitted
 pub mod Answered
+pub mod Whole
