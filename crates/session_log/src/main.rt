@@ -13,7 +13,7 @@ struct Turn {
     journal: Journal,
 }
 
-// Steps a field and writes its lines; where they cannot be written there is no more to do.
+// Steps a field and writes its lines; where they cannot be written it says so, and there is no more to do.
 fn log_field(j: Journal, tag: u8, content: &[u8], lines: &mut [u8]) -> Turn
     requires { ⌜ Given j ⌝ }
     ensures { λ r. ⌜ Given (r .journal) ⌝ }
@@ -28,6 +28,9 @@ fn log_field(j: Journal, tag: u8, content: &[u8], lines: &mut [u8]) -> Turn
         };
     }
     let written = io::write_all(STDOUT_FILENO, &lines[0..n]);
+    if !written {
+        os::fail(b"session_log");
+    }
     Turn {
         more: stepped.room & written & !has_ended(next),
         journal: next,

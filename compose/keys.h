@@ -1,0 +1,29 @@
+// The keys of a step, each followed by its value.
+#ifndef COMPOSE_KEYS_H
+#define COMPOSE_KEYS_H
+
+#include <stddef.h>
+
+#include "line.h"
+
+// Digits of at most the width, a text of the width, a text with blanks after it up to the width, or
+// LA or LP.
+enum takes { TAKES_DIGITS, TAKES_TEXT, TAKES_PADDED, TAKES_SIDE };
+
+// A key, what it takes, where the value stands in what is written and how wide it is there.
+struct key {
+    const char *name;
+    enum takes takes;
+    size_t start;
+    size_t width;
+};
+
+// Puts the value of a key into what is written.
+typedef void put_value(const struct line *line, const struct key *key, const struct word *value,
+    void *into);
+
+// Puts the value of each key from word from on; a key that is unknown, repeated or alone is refused.
+void put_keys(const struct line *line, size_t from, const struct key *keys, size_t count,
+    put_value *put, void *into);
+
+#endif

@@ -1,0 +1,41 @@
+// The values that words stand for: digits, numbers, texts, clocks and bytes.
+#ifndef COMPOSE_VALUES_H
+#define COMPOSE_VALUES_H
+
+#include <stddef.h>
+#include <stdint.h>
+
+#include "bytes.h"
+#include "line.h"
+
+// Every call below refuses the line where the word is not what the call reads.
+
+// The number of a word of one to width digits; the width is at most 18.
+uint64_t number_of(const struct line *line, const char *name,
+    const struct word *word, size_t width);
+
+// Puts the word's digits at the place of this width, with zeros before them.
+void put_digits(uint8_t *place, const struct line *line, const char *name,
+    const struct word *word, size_t width);
+
+// Puts a text of exactly this width at the place.
+void put_text(uint8_t *place, const struct line *line, const char *name,
+    const struct word *word, size_t width);
+
+// Puts a text of at most this width at the place, with blanks after it.
+void put_padded(uint8_t *place, const struct line *line, const char *name,
+    const struct word *word, size_t width);
+
+// Adds the clock of words 1 and 2, eight and six characters as they stand, digits or not.
+void add_clock(struct bytes *to, const struct line *line);
+
+// Adds the bytes of the words from this one on, each pairs of hexadecimal digits or a quoted text.
+void add_raw(struct bytes *to, const struct line *line, size_t from);
+
+// The byte of a word of two hexadecimal digits.
+uint8_t tag_of(const struct line *line, const struct word *word);
+
+// Adds a field of this tag, which holds at most 65,535 bytes.
+void add_field(struct bytes *session, const struct line *line, uint8_t tag, const struct bytes *held);
+
+#endif
