@@ -1,0 +1,18 @@
+//! The OPTES tender book and its session log, written from document 01 alone.
+//!
+//! It shares no line with the proved crates, so that the two can be compared. `session` logs whole
+//! sessions, `application` reads and writes a 6G1, `compose` makes sessions for tests.
+#![forbid(unsafe_code)]
+
+pub mod announcement;
+pub mod application;
+pub mod award;
+pub mod calendar;
+pub mod compose;
+pub mod digits;
+pub mod envelope;
+pub mod errors;
+pub mod refusal;
+pub mod rules;
+pub mod session;
+pub mod tender;

@@ -1,0 +1,171 @@
+//! A tender from its announcement to its awards.
+
+use crate::announcement::Terms;
+use crate::application::{Application, Field, PLACES};
+use crate::award::{Allotment, Bid, PlacedBid, POSITIONS};
+use crate::calendar::{Moment, Time};
+use crate::digits;
+use crate::errors::{ApplicationError as E, Errors};
+use crate::refusal::Refusal;
+use crate::rules;
+
+/// The most counterparties that are admitted.
+pub const MOST_CODES: usize = POSITIONS / PLACES;
+const MOST_CENTS: u128 = 999_999_999_999_999_999;
+
+#[derive(Clone, Copy, Debug, PartialEq, Eq)]
+enum State {
+    Open,
+    Closed,
+    Announced,
+    Revoked,
+}
+
+/// What the book holds for one counterparty.
+#[derive(Clone, Debug)]
+struct Holding {
+    code: u32,
+    time: Option<Time>,
+    bids: [Bid; PLACES],
+}
+
+/// An opened tender with its book.
+#[derive(Clone, Debug)]
+pub struct Tender {
+    terms: Terms,
+    state: State,
+    book: Vec<Holding>,
+}
+
+/// What became of a message: it is accepted where there are no errors.
+#[derive(Clone, Copy, Debug)]
+pub struct Reception<'a> {
+    pub sender: &'a [u8],
+    pub errors: Errors,
+}
+
+/// An award above zero.
+#[derive(Clone, Copy, Debug, PartialEq, Eq)]
+pub struct Award {
+    pub code: u32,
+    pub place: usize,
+    pub bid: Bid,
+    pub cents: u64,
+}
+
+fn are_admissible(codes: &[u32]) -> bool {
+    (1..=MOST_CODES).contains(&codes.len())
+        && codes.windows(2).all(|pair| pair[0] < pair[1])
+        && codes.iter().all(|&code| code <= 99_999)
+}
+
+impl Tender {
+    /// Opens a tender for an announcement and the admitted codes.
+    pub fn open(announcement: &[u8], codes: &[u32]) -> Result<Tender, Refusal> {
+        let terms = Terms::read(announcement)?;
+        Refusal::BadCodes.if_so(!are_admissible(codes))?;
+        let empty = |&code| Holding { code, time: None, bids: [Bid::ZERO; PLACES] };
+        Ok(Tender { terms, state: State::Open, book: codes.iter().map(empty).collect() })
+    }
+
+    fn open_at(&self, clock: Option<Moment>) -> Result<Moment, Refusal> {
+        Refusal::Revoked.if_so(self.state == State::Revoked)?;
+        Refusal::Over.if_so(self.state != State::Open)?;
+        clock.ok_or(Refusal::ClockInvalid)
+    }
+
+    /// Receives a message; a clock that is no date and time is none.
+    pub fn receive<'a>(
+        &mut self,
+        message: &'a [u8],
+        clock: Option<Moment>,
+    ) -> Result<Reception<'a>, Refusal> {
+        let received = self.open_at(clock)?;
+        let application = Application::read(message)?;
+        let errors = self.enter(&application, received);
+        Ok(Reception { sender: application.field(Field::Sender), errors })
+    }
+
+    /// Collects the application's errors and, where there are none, holds its time and bids.
+    fn enter(&mut self, application: &Application, received: Moment) -> Errors {
+        let mut errors = Errors::default();
+        rules::check_texts(&self.terms, application, &mut errors);
+        rules::check_date(&self.terms, application, &mut errors);
+        rules::check_reception(&self.terms, received, &mut errors);
+        let position = self.admitted(application, &mut errors);
+        let time = rules::check_time(application, &mut errors);
+        let bids = rules::check_bids(&self.terms, application, &mut errors);
+        if let (true, Some(position), Some(bids)) = (errors.is_empty(), position, bids) {
+            let holding = &mut self.book[position];
+            // None is before every time.
+            if time > holding.time {
+                *holding = Holding { code: holding.code, time, bids };
+            } else {
+                errors.add_if(E::Superseded, true);
+            }
+        }
+        errors
+    }
+
+    /// Where the sender stands in the book, or none with its error added.
+    fn admitted(&self, application: &Application, errors: &mut Errors) -> Option<usize> {
+        let Some(code) = digits::number(application.field(Field::Sender)) else {
+            errors.add_if(E::SenderNotDigits, true);
+            return None;
+        };
+        let position = self.book.binary_search_by_key(&(code as u32), |holding| holding.code).ok();
+        errors.add_if(E::SenderNotAdmitted, position.is_none());
+        position
+    }
+
+    /// Closes the tender after its cut-off.
+    pub fn close(&mut self, clock: Option<Moment>) -> Result<(), Refusal> {
+        let now = self.open_at(clock)?;
+        Refusal::BeforeCutOff.if_so(now <= self.terms.cut_off)?;
+        self.state = State::Closed;
+        Ok(())
+    }
+
+    /// Revokes the tender before it is announced.
+    pub fn revoke(&mut self) -> Result<(), Refusal> {
+        Refusal::Revoked.if_so(self.state == State::Revoked)?;
+        Refusal::Announced.if_so(self.state == State::Announced)?;
+        self.state = State::Revoked;
+        Ok(())
+    }
+
+    /// Allots the closed tender and announces it.
+    pub fn allot(&mut self) -> Result<Allotment, Refusal> {
+        Refusal::Revoked.if_so(self.state == State::Revoked)?;
+        Refusal::StillOpen.if_so(self.state == State::Open)?;
+        Refusal::Announced.if_so(self.state == State::Announced)?;
+        let mut bids = self.bids();
+        let total: u128 = bids.iter().map(|placed| u128::from(placed.bid.amount.0)).sum();
+        Refusal::BidsExceed.if_so(total > MOST_CENTS)?;
+        self.state = State::Announced;
+        Ok(self.terms.offer.allot(&mut bids))
+    }
+
+    /// The bids of the book, in its order.
+    fn bids(&self) -> Vec<PlacedBid> {
+        let mut bids = Vec::with_capacity(self.book.len() * PLACES);
+        for (rank, holding) in self.book.iter().enumerate() {
+            for (place, &bid) in holding.bids.iter().enumerate() {
+                if bid.is_filled() {
+                    bids.push(PlacedBid { position: rank * PLACES + place, bid });
+                }
+            }
+        }
+        bids
+    }
+
+    /// The awards above zero, in book order.
+    pub fn awards<'a>(&'a self, allotment: &'a Allotment) -> impl Iterator<Item = Award> + 'a {
+        let awards = allotment.awards.iter().enumerate().filter(|(_, award)| award.0 > 0);
+        awards.map(|(position, award)| {
+            let holding = &self.book[position / PLACES];
+            let place = position % PLACES;
+            Award { code: holding.code, place: place + 1, bid: holding.bids[place], cents: award.0 }
+        })
+    }
+}
