@@ -1,4 +1,5 @@
-//! The OPTES tender book and its session log, written from document 01 alone.
+//! The OPTES tender book and its session log, written from document 01 and the reading of its open
+//! points in docs/DECISIONS.md, without a look at the Rattle sources.
 //!
 //! It shares no line with the proved crates, so that the two can be compared. `session` logs whole
 //! sessions, `application` reads and writes a 6G1, `compose` makes sessions for tests.
