@@ -26,12 +26,6 @@ pub enum Found {
     Absent,
 }
 
-// Whether a message was taken, and the book after it.
-pub struct Accepted {
-    pub taken: bool,
-    pub book: Book,
-}
-
 // Rates and amounts of 640 places.
 pub struct Columns {
     pub rates: [Rate; 640],
@@ -73,14 +67,15 @@ fn wide(c: u32) -> u64
     c as u64
 }
 
-// The first place in the book where a code stands.
+// The first place in the book where a code stands. The codes are copied alone, for an index into the book would copy all of it.
 pub fn find(b: Book, code: u64) -> Found
     ensures { λ r. ⌜ r ≡ findFrom (viewed b) code 0 ⌝ }
 {
     let n = up_to_64(b.n);
+    let codes = b.codes;
     let mut i = 0;
     while i < n {
-        let c = wide(b.codes[i]);
+        let c = wide(codes[i]);
         if c == code {
             return Found::At(i);
         }

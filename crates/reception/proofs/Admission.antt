@@ -7,13 +7,9 @@ use lib.Dec.{eqb}
 use borrow.Author.Tests.{eqb-true, eqb-false, eq-eqb, ne-eqb}
 use Rattle.rules.specs.Opening.{any}
 use Rattle.rules.specs.Receiving.{Entry}
-use Rattle.book.specs.declared.Found.{Found}
-use Rattle.book.specs.declared.Found.the-variants.{At, Absent}
+use Rattle.book.specs.declared.Found.the-variants.{At}
 use Rattle.book.specs.Viewed.{findFrom, codesIn}
-
-unfoldable isAt : Found → Bool
-isAt Absent = false
-isAt (At i) = true
+use Rattle.reception.specs.Submission.{isAt}
 
 eqb-sym : (a b : ℕ) → eqb a b ≡ eqb b a
 eqb-sym a b = go (eqb b a) refl
@@ -22,19 +18,11 @@ eqb-sym a b = go (eqb b a) refl
     go true h = eq-eqb a b (sym (eqb-true b a h))
     go false h = ne-eqb a b (λ e. eqb-false b a h (sym e))
 
-admitted-is : (es : List Entry) (c i : ℕ) → any (eqb c) (codesIn es) ≡ isAt (findFrom es c i)
-unfolding any codesIn findFrom isAt
+pub admitted-is : (es : List Entry) (c i : ℕ) → any (eqb c) (codesIn es) ≡ isAt (findFrom es c i)
+unfolding any codesIn findFrom
 admitted-is [] c i = refl
 admitted-is (e ∷ es) c i = ap (λ (t : Bool). t || any (eqb c) (codesIn es)) (eqb-sym c (e .code)) ∙ go (eqb (e .code) c) (admitted-is es c (suc i))
   where
     go : (t : Bool) → any (eqb c) (codesIn es) ≡ isAt (findFrom es c (suc i)) → (t || any (eqb c) (codesIn es)) ≡ isAt (cond t (At i) (findFrom es c (suc i)))
     go true h = refl
     go false h = h
-
-pub admitted-at : (es : List Entry) (c k : ℕ) → findFrom es c 0 ≡ At k → true ≡ any (eqb c) (codesIn es)
-unfolding isAt
-admitted-at es c k h = sym (admitted-is es c 0 ∙ ap isAt h)
-
-pub admitted-absent : (es : List Entry) (c : ℕ) → findFrom es c 0 ≡ Absent → false ≡ any (eqb c) (codesIn es)
-unfolding isAt
-admitted-absent es c h = sym (admitted-is es c 0 ∙ ap isAt h)

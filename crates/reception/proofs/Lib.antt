@@ -1,3 +1,4 @@
 pub mod Admission
 pub mod Listing
 pub mod Submission
+pub mod Judging

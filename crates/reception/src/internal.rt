@@ -1,8 +1,10 @@
 // The steps of a reception that is not refused.
-use crate::Submitted;
+use crate::Judged;
 use crate::is_admitted;
 use book::Book;
-use book::internal::accept;
+use book::Found;
+use book::find;
+use book::internal::takes_at;
 use checks::internal::errors_of;
 use digits::number_of;
 use envelope::application::Fields;
@@ -24,37 +26,46 @@ ghost use Rattle.rules.specs.Opening.{rising};
 ghost use Rattle.rules.specs.Calls.{reply};
 ghost use Rattle.errors.specs.Listed.{listed};
 ghost use Rattle.terms.specs.Viewed as terms;
+ghost use Rattle.bids.specs.Columns.{bidsFrom};
 ghost use Rattle.book.specs.Viewed.{viewed, codesIn};
 ghost use Rattle.checks.specs.Columns.{received};
-ghost use Rattle.reception.specs.Submission.{submitted};
+ghost use Rattle.reception.specs.Submission.{afterJudged, submitted};
 
-// The errors of a readable message with the fields f, received on a day and at a second, and the book after it.
-pub fn submit(m: &[u8], f: Fields, t: Terms, b: Book, day: u64, second: u64) -> Submitted
+// The errors of a readable message with the fields f, received on a day and at a second, and where the book holds it if it has none.
+pub fn judge(m: &[u8], f: Fields, t: Terms, b: Book, day: u64, second: u64) -> Judged
     requires { ⌜ readable layout6G1 (now m) ≡ true ⌝ }
     requires { ⌜ f ≡ fieldsOf (now m) ⌝ }
     requires { ⌜ (validDate day && validTime second) ≡ true ⌝ }
     requires { ⌜ rising (codesIn (viewed b)) ≡ true ⌝ }
-    ensures { λ r. ⌜ ((space : List ℕ) → (listed (r .errors), viewed (r .book)) ≡ submitted (terms.viewed t (codesIn (viewed b))) (viewed b) (received (now (m .entry)) day second space)) × (0 < r .errors .n → r .book ≡ b) × (r .errors .n ≤ 16) ⌝ }
+    ensures { λ r. ⌜ ((space : List ℕ) → (listed (r .errors), afterJudged (viewed b) r (bidsFrom (f .places .rates) (f .places .amounts) 0 10)) ≡ submitted (terms.viewed t (codesIn (viewed b))) (viewed b) (received (now (m .entry)) day second space)) × (r .errors .n ≤ 16) × (r .at < 64) ⌝ }
 {
     let sender = f.sender;
     let code = number_of(sender);
-    let e = errors_of(m, t, f, is_admitted(b, code), day, second);
+    let reference = f.time;
+    let time = number_of(reference);
+    let found = find(b, code);
+    let e = errors_of(m, t, f, is_admitted(found), day, second);
     if 1 <= e.n {
-        return Submitted { errors: e, book: b };
+        return Judged {
+            errors: e,
+            time,
+            at: 0,
+        };
     }
-    let time = f.time;
-    let places = f.places;
-    let rates = places.rates;
-    let amounts = places.amounts;
-    let reference = number_of(time);
-    let accepted = accept(b, code, reference, rates, amounts);
-    if accepted.taken {
-        let book = accepted.book;
-        return Submitted { errors: e, book };
-    }
-    Submitted {
-        errors: with(e, true, 302),
-        book: b,
+    match found {
+        Found::At(at) => {
+            let taken = takes_at(b, at, time);
+            Judged {
+                errors: with(e, !taken, 302),
+                time,
+                at,
+            }
+        }
+        Found::Absent => Judged {
+            errors: with(e, true, 302),
+            time,
+            at: 0,
+        },
     }
 }
 

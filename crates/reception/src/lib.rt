@@ -1,26 +1,23 @@
 // A message received: its errors, the book after it, and its reply.
 pub mod internal;
 
-use book::Book;
 use book::Found;
-use book::find;
 use errors::Errors;
 ghost use mathlib.Core.Path.{_≡_};
-ghost use lib.Dec.{eqb};
-ghost use Rattle.rules.specs.Opening.{any};
-ghost use Rattle.book.specs.Viewed.{viewed, codesIn};
+ghost use Rattle.reception.specs.Submission.{isAt};
 
-// The errors with which a message is returned, none where it is accepted, and the book after it.
-pub struct Submitted {
+// The errors with which a message is returned, none where it is accepted; its reference time, and then where its code stands in the book.
+pub struct Judged {
     pub errors: Errors,
-    pub book: Book,
+    pub time: u64,
+    pub at: usize,
 }
 
-// Whether a code is admitted.
-pub fn is_admitted(b: Book, code: u64) -> bool
-    ensures { λ r. ⌜ r ≡ any (eqb code) (codesIn (viewed b)) ⌝ }
+// Whether a code that was looked for is admitted.
+pub fn is_admitted(found: Found) -> bool
+    ensures { λ r. ⌜ r ≡ isAt found ⌝ }
 {
-    match find(b, code) {
+    match found {
         Found::At(at) => true,
         Found::Absent => false,
     }

@@ -4,3 +4,4 @@ pub mod Allotting
 pub mod Answering
 pub mod Opening
 pub mod ArrivalOrder
+pub mod Outcomes

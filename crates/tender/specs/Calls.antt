@@ -2,19 +2,26 @@
 -- handed to the next call. Assumes nothing.
 use mathlib.Core.Path.{_≡_}
 use mathlib.Core.List.{List, [], _∷_}
-use mathlib.Core.Option.{Option}
-use Prim.Native.Nat.{ℕ, _≤_}
+use mathlib.Core.Bool.{true}
+use mathlib.Core.Option.{Option, none}
+use Prim.Native.Nat.{ℕ, _≤_, _<_}
+use lib.ListN.{length}
+use Rattle.layout.specs.Fields.{readable}
+use Rattle.envelope.specs.Application.{layout6G1}
 use Rattle.envelope.specs.Refusals.{firstHolding, unlessRefused}
-use Rattle.rules.specs.Receiving.{Reception, returnedErrors}
+use Rattle.rules.specs.Receiving.{Reception, Error, Entry, returnedErrors}
 use Rattle.rules.specs.Calls as rules
 use Rattle.errors.specs.Listed.{listed}
 use Rattle.terms.specs.Viewed.{openRefusal}
+use Rattle.checks.specs.Columns.{received}
+use Rattle.reception.specs.Submission.{submitted}
 use Rattle.tender.specs.declared.Tender.{Tender}
 use Rattle.tender.specs.declared.Opened.{Opened}
 use Rattle.tender.specs.declared.Received.{Received}
 use Rattle.tender.specs.declared.Changed.{Changed}
 use Rattle.tender.specs.declared.Allotted.{Allotted}
-use Rattle.tender.specs.Viewed.{viewed, Given, numberOf, answerOf, errorsIn, lengthIn, unlessConfirmed, allottedIn}
+use Rattle.tender.specs.declared.internal.Outcome.{Outcome}
+use Rattle.tender.specs.Viewed.{viewed, Given, numberOf, answerOf, errorsIn, lengthIn, unlessConfirmed, entriesAfter, allottedIn}
 
 -- conditions 8, 9 and 10, which receiving and closing ask first
 abbrev pub notOpen : rules.Tender → ℕ → ℕ → Option ℕ
@@ -27,6 +34,19 @@ answered t x = rules.answerWith (returnedErrors (t .terms) (t .book) x) t x
 pub record Opens (m codes : List ℕ) (r : Opened) : Type 0 where
   pub equal : (openRefusal (r .answer), viewed (r .tender)) ≡ rules.openTender m codes
   pub given : Given (r .tender)
+
+-- the errors and the book that a reception leaves where no condition refuses it
+abbrev pub Left : Tender → Reception → Outcome → Type 0
+Left t x o = _≡_ {A = List Error × List Entry} (listed (o .errors), entriesAfter (viewed t .book) o) (submitted (viewed t .terms) (viewed t .book) x)
+
+-- what the reception of a message comes to, in any space with so much room
+pub record ComesTo (t : Tender) (m : List ℕ) (date time room : ℕ) (o : Outcome) : Type 0 where
+  pub number : (space : List ℕ) → length space ≡ room → numberOf (o .refusal) ≡ rules.receivingRefused (viewed t) (received m date time space)
+  pub roomy : numberOf (o .refusal) ≡ none → 418 ≤ room
+  pub readable-told : numberOf (o .refusal) ≡ none → readable layout6G1 m ≡ true
+  pub left : numberOf (o .refusal) ≡ none → (space : List ℕ) → Left t (received m date time space) o
+  pub few : o .errors .n ≤ 16
+  pub within : o .at < 64
 
 -- the reply space is `after` the call
 pub record Receives (t : Tender) (expected : rules.Answer × rules.Tender × List ℕ) (r : Received) (after : List ℕ) : Type 0 where

@@ -1,17 +1,18 @@
 -- The code's tender, refusals and answers as document 01's. Assumes nothing.
 use mathlib.Core.Path.{_≡_}
-use mathlib.Core.Bool.{Bool, true, false}
+use mathlib.Core.Bool.{Bool, true, false, cond, not, _&&_}
 use mathlib.Core.List.{List, [], map}
 use mathlib.Core.Option.{Option, none, some}
 use Prim.Native.Nat.{ℕ}
+use lib.Dec.{eqb}
 use lib.ListN.{replicate}
 use Rattle.rules.specs.Opening.{rising}
-use Rattle.rules.specs.Receiving.{Error}
+use Rattle.rules.specs.Receiving.{Error, Entry}
 use Rattle.rules.specs.Calls as rules
 use Rattle.errors.specs.Listed.{listed}
 use Rattle.terms.specs.declared.Terms.{Terms}
 use Rattle.terms.specs.Viewed as terms
-use Rattle.bids.specs.Columns.{noAmount, cents}
+use Rattle.bids.specs.Columns.{noAmount, cents, bidsFrom}
 use Rattle.book.specs.declared.Book.{Book}
 use Rattle.book.specs.Viewed as book
 use Rattle.marginal.specs.declared.MarginalRate.the-variants as rate
@@ -23,6 +24,7 @@ use Rattle.tender.specs.declared.Refusal.the-variants as refusal
 use Rattle.tender.specs.declared.Tender.{Tender}
 use Rattle.tender.specs.declared.Received.{Received}
 use Rattle.tender.specs.declared.Changed.{Changed}
+use Rattle.tender.specs.declared.internal.Outcome.{Outcome}
 use Rattle.tender.specs.declared.Allotted.{Allotted}
 
 -- 'open, closed, announced or revoked'
@@ -96,6 +98,17 @@ abbrev pub unlessConfirmed : {A : Type 0} → rules.Answer → A → A → A
 unlessConfirmed (rules.confirmed n) old new = new
 unlessConfirmed (rules.returned es n) old new = old
 unlessConfirmed (rules.refused k) old new = old
+
+-- a reception that is neither refused nor returned is held
+abbrev pub isHeld : Outcome → Bool
+isHeld o = not (isSome (numberOf (o .refusal))) && eqb (o .errors .n) 0
+
+-- the book and the tender after a reception: at most the entry of its code changes
+abbrev pub entriesAfter : List Entry → Outcome → List Entry
+entriesAfter es o = cond (isHeld o) (book.replaced es (o .at) (o .time) (bidsFrom (o .rates) (o .amounts) 0 10)) es
+
+abbrev pub leftBy : rules.Tender → Outcome → rules.Tender
+leftBy t o = record { terms = t .terms; state = t .state; book = entriesAfter (t .book) o }
 
 -- what allotting gives
 abbrev pub allottedIn : Allotted → rules.Allotted

@@ -8,14 +8,14 @@ use book::new_book;
 use calendar::moment_later;
 use calendar::valid_date;
 use calendar::valid_time;
-use envelope::application::ReadAnswer;
-use envelope::application::read;
 use errors::Errors;
 use errors::none;
-use internal::answer;
+use internal::held_in;
+use internal::outcome_of;
 use marginal::MarginalRate;
 use offer::Offer;
 use places::Amount;
+use reception::internal::put_reply;
 use terms::OpenAnswer;
 use terms::Terms;
 use terms::is_opened;
@@ -25,6 +25,7 @@ ghost use Rattle.envelope.specs.Refusals.{firstHolding, orZero};
 ghost use Rattle.rules.specs.Calls.{clockInvalid, receive, close, revoke};
 ghost use Rattle.errors.specs.Listed.{listed};
 ghost use Rattle.checks.specs.Columns.{received};
+ghost use Rattle.tender.specs.declared.Tender.{Tender};
 ghost use Rattle.tender.specs.declared.State.the-variants as state;
 ghost use Rattle.tender.specs.declared.Refusal.the-variants as refusal;
 ghost use Rattle.tender.specs.Viewed.{viewed, Given, numberOf, isSome, inStateOf, changedTo, unallottedOf};
@@ -163,10 +164,9 @@ fn clock_refusal(date: u64, time: u64) -> Refusal
 }
 
 // Conditions 8, 9 and 10.
-fn not_open(t: Tender, date: u64, time: u64) -> Refusal
-    ensures { λ r. ⌜ numberOf r ≡ notOpen (viewed t) date time ⌝ }
+fn not_open(state: State, date: u64, time: u64) -> Refusal
+    ensures { λ r. ⌜ ((t : Tender) → t .state ≡ state → numberOf r ≡ notOpen (viewed t) date time) ⌝ }
 {
-    let state = t.state;
     match state {
         State::Open => clock_refusal(date, time),
         State::Closed => Refusal::Over,
@@ -280,21 +280,26 @@ impl Tender {
         requires { ⌜ Given self ⌝ }
         ensures { λ r. ⌜ Receives self (receive (viewed self) (received (now (m .entry)) date time (now (space .entry)))) r (now (space .exit)) ⌝ }
     {
-        let first = not_open(self, date, time);
-        if is_refused(first) {
-            return unreceived(self, first);
+        let state = self.state;
+        let terms = self.terms;
+        let book = self.book;
+        let o = outcome_of(state, terms, book, m, date, time, space.len());
+        let refusal = o.refusal;
+        if is_refused(refusal) {
+            return unreceived(self, refusal);
         }
-        if space.len() < 418 {
-            return unreceived(self, Refusal::SpaceShort);
-        }
-        let reading = read(m);
-        let found = reading.answer;
-        match found {
-            ReadAnswer::Unreadable => unreceived(self, Refusal::Unreadable),
-            ReadAnswer::Readable => {
-                let fields = reading.fields;
-                answer(self, m, fields, date, time, space)
-            }
+        let errors = o.errors;
+        let length = put_reply(space, m, terms, time, errors);
+        let next = held_in(book, o);
+        Received {
+            refusal: Refusal::None,
+            errors,
+            length,
+            tender: Tender {
+                state,
+                terms,
+                book: next,
+            },
         }
     }
 
@@ -303,7 +308,8 @@ impl Tender {
         requires { ⌜ Given self ⌝ }
         ensures { λ r. ⌜ Changes self (close (viewed self) date time) r ⌝ }
     {
-        let first = not_open(self, date, time);
+        let state = self.state;
+        let first = not_open(state, date, time);
         if is_refused(first) {
             return Changed {
                 refusal: first,

@@ -28,25 +28,25 @@ returns : tie.Need-returns
 unfolding firstHolding isRevoked isOver
 returns c =
     let a = c .before .before .before .args in
-    c .clock-refusal .ensures ∙ sym (ap (λ (s : State). notOpen (viewed (inStateOf s (a .t))) (a .date) (a .time)) (c .before .enum-told .given .1))
+    λ t h. c .clock-refusal .ensures ∙ sym (ap (λ (s : State). notOpen (viewed (inStateOf s t)) (a .date) (a .time)) (h ∙ c .before .enum-told .given .1))
 
 returns-2 : tie.Need-returns-2
 unfolding firstHolding isRevoked isOver
 returns-2 c =
     let a = c .before .before .args in
-    sym (ap (λ (s : State). notOpen (viewed (inStateOf s (a .t))) (a .date) (a .time)) (c .enum-told2 .given .1))
+    λ t h. sym (ap (λ (s : State). notOpen (viewed (inStateOf s t)) (a .date) (a .time)) (h ∙ c .enum-told2 .given .1))
 
 returns-3 : tie.Need-returns-3
 unfolding firstHolding isRevoked isOver
 returns-3 c =
     let a = c .before .before .args in
-    sym (ap (λ (s : State). notOpen (viewed (inStateOf s (a .t))) (a .date) (a .time)) (c .enum-told3 .given .1))
+    λ t h. sym (ap (λ (s : State). notOpen (viewed (inStateOf s t)) (a .date) (a .time)) (h ∙ c .enum-told3 .given .1))
 
 returns-4 : tie.Need-returns-4
 unfolding firstHolding isRevoked isOver
 returns-4 c =
     let a = c .before .before .args in
-    sym (ap (λ (s : State). notOpen (viewed (inStateOf s (a .t))) (a .date) (a .time)) (c .enum-told4 .given .1))
+    λ t h. sym (ap (λ (s : State). notOpen (viewed (inStateOf s t)) (a .date) (a .time)) (h ∙ c .enum-told4 .given .1))
 
 pub not-open-spec : {M : Type 1} → statement M
 not-open-spec =

@@ -11,14 +11,14 @@ use borrow.Author.Needs.{needs}
 use Rattle.book.proofs.internal.takes_at.Statement.{statement}
 use Rattle.book.proofs.internal.takes_at.Tie as tie
 
-element-copy-out-result : tie.Need-element-copy-out-result
-element-copy-out-result c = search needs
+array-read-result : tie.Need-array-read-result
+array-read-result c = search needs
 
 mul-result : tie.Need-mul-result
 mul-result c = search needs
 
-element-copy-out-result-2 : tie.Need-element-copy-out-result-2
-element-copy-out-result-2 c = search needs
+array-read-result-2 : tie.Need-array-read-result-2
+array-read-result-2 c = search needs
 
 after-held : (has : Bool) (held time : ℕ) → (not has || ltb held time) ≡ isAfter time (cond has (some held) none)
 unfolding isAfter
@@ -29,8 +29,8 @@ returns : tie.Need-returns
 unfolding heldAt
 returns c =
     let s = c .before .before .args in
-    after-held (getD (s .t1 .has) (s .at) false) (getD (s .t1 .held) (s .at) 0) (s .time)
+    after-held (getD (s .b .has) (s .at) false) (getD (s .b .held) (s .at) 0) (s .time)
 
 pub takes-at-spec : {M : Type 1} → statement M
 takes-at-spec =
-    tie.close (tie.spec element-copy-out-result mul-result element-copy-out-result-2 returns)
+    tie.close (tie.spec array-read-result mul-result array-read-result-2 returns)

@@ -30,7 +30,7 @@ returns c =
     let t = viewed (a .self) in
     let refused : isSome (numberOf (n .not-open .result)) ≡ true = sym (c .before .is-refused .ensures) ∙ c .if1 .taken in
     changes-refused (a .self) (start .pre) (closingRefused t (a .date) (a .time)) (inState Closed t) (n .not-open .result)
-    (refused-first ((8, isRevoked t) ∷ (9, isOver t) ∷ (10, clockInvalid (a .date) (a .time)) ∷ []) ((13, beforeCutOff (t .terms) (a .date) (a .time)) ∷ []) (numberOf (n .not-open .result)) (n .not-open .ensures) refused) refused
+    (refused-first ((8, isRevoked t) ∷ (9, isOver t) ∷ (10, clockInvalid (a .date) (a .time)) ∷ []) ((13, beforeCutOff (t .terms) (a .date) (a .time)) ∷ []) (numberOf (n .not-open .result)) (n .not-open .ensures (a .self) refl) refused) refused
 
 moment-later-requires : tie.Need-moment-later-requires
 moment-later-requires c κs = search needs
@@ -47,7 +47,7 @@ last-asked c =
     let n = c .before .before in
     let a = n .before .args in
     let t = viewed (a .self) in
-    refused-later ((8, isRevoked t) ∷ (9, isOver t) ∷ (10, clockInvalid (a .date) (a .time)) ∷ []) ((13, beforeCutOff (t .terms) (a .date) (a .time)) ∷ []) (numberOf (n .not-open .result)) (n .not-open .ensures) (sym (c .before .is-refused .ensures) ∙ c .if1 .left)
+    refused-later ((8, isRevoked t) ∷ (9, isOver t) ∷ (10, clockInvalid (a .date) (a .time)) ∷ []) ((13, beforeCutOff (t .terms) (a .date) (a .time)) ∷ []) (numberOf (n .not-open .result)) (n .not-open .ensures (a .self) refl) (sym (c .before .is-refused .ensures) ∙ c .if1 .left)
 
 returns-2 : tie.Need-returns-2
 unfolding close firstHolding beforeCutOff
