@@ -1,41 +1,31 @@
-//! Compares a program's logs with the library's, byte for byte.
-//!
-//! compare-sessions PROGRAM [SEED [COUNT]]
+//! Compares a program's logs with the independent ones, byte for byte.
 
-mod damage;
-mod days;
-mod generate;
-mod program;
-mod random;
-mod tally;
-
+use crate::damage;
+use crate::sessions::tally::Tally;
+use crate::sessions::{generate, program};
 use independent::session;
-use std::process::ExitCode;
-use std::{env, fs, io};
-use tally::Tally;
+use std::{fs, io};
 
-const DEFAULT_SEED: u64 = 20_120_312;
-const DEFAULT_COUNT: u64 = 2000;
 /// A batch is compared when it has so many bytes.
 const BATCH_BYTES: usize = 1 << 20;
 
 /// A session with the seed that it was made from.
-struct Seeded {
-    seed: u64,
-    bytes: Vec<u8>,
+pub struct Seeded {
+    pub seed: u64,
+    pub bytes: Vec<u8>,
 }
 
 /// A comparison under way: the sessions that wait for their batch, and what was seen.
-struct Comparison {
+pub struct Comparison {
     program: String,
     batch: Vec<Seeded>,
     batch_bytes: usize,
-    ended: u64,
-    tally: Tally,
+    pub ended: u64,
+    pub tally: Tally,
 }
 
 /// Why a comparison stops.
-enum Stop {
+pub enum Stop {
     Failed(io::Error),
     Differs(Seeded),
 }
@@ -47,8 +37,16 @@ impl From<io::Error> for Stop {
 }
 
 impl Comparison {
-    fn new(program: String) -> Comparison {
+    pub fn new(program: String) -> Comparison {
         Comparison { program, batch: Vec::new(), batch_bytes: 0, ended: 0, tally: Tally::default() }
+    }
+
+    /// Compares so many sessions, the first of them with this seed.
+    pub fn compare(&mut self, first: u64, count: u64) -> Result<(), Stop> {
+        for seed in (0..count).map(|index| first.wrapping_add(index)) {
+            self.take(Seeded { seed, bytes: generate::session(seed) })?;
+        }
+        self.finish_batch()
     }
 
     /// Compares a session that ends its log by itself, and lets another wait for its batch.
@@ -121,7 +119,7 @@ impl Comparison {
     }
 
     /// Tells a difference with both logs and writes its session, whole and reduced, to files.
-    fn report(&self, session: &Seeded) -> io::Result<()> {
+    pub fn report(&self, session: &Seeded) -> io::Result<()> {
         let path = format!("difference-{}", session.seed);
         let reduced = self.reduced(&session.bytes)?;
         fs::write(format!("{path}.session"), &session.bytes)?;
@@ -135,71 +133,5 @@ impl Comparison {
         }
         eprintln!("the log by document 01:\n{}", String::from_utf8_lossy(&session::log(&reduced)));
         Ok(())
-    }
-}
-
-fn compare(comparison: &mut Comparison, first: u64, count: u64) -> Result<(), Stop> {
-    for seed in first..first + count {
-        comparison.take(Seeded { seed, bytes: generate::session(seed) })?;
-    }
-    comparison.finish_batch()
-}
-
-fn arguments() -> Option<(String, u64, u64)> {
-    let mut given = env::args().skip(1);
-    let program = given.next()?;
-    let seed = given.next().map_or(Some(DEFAULT_SEED), |text| text.parse().ok())?;
-    let count = given.next().map_or(Some(DEFAULT_COUNT), |text| text.parse().ok())?;
-    given.next().is_none().then_some((program, seed, count))
-}
-
-/// Tells what was compared.
-fn summarise(comparison: &Comparison, seed: u64, count: u64) {
-    let (tally, ended) = (&comparison.tally, comparison.ended);
-    println!("{}", tally.text());
-    for missing in tally.missing() {
-        println!("compare-sessions: no log showed {missing}");
-    }
-    println!("compare-sessions: {count} sessions from seed {seed} agree, {ended} ended early");
-}
-
-fn main() -> ExitCode {
-    let Some((program, seed, count)) = arguments() else {
-        eprintln!("compare-sessions PROGRAM [SEED [COUNT]]");
-        return ExitCode::from(2);
-    };
-    let mut comparison = Comparison::new(program);
-    let stopped = match compare(&mut comparison, seed, count) {
-        Ok(()) => {
-            summarise(&comparison, seed, count);
-            return ExitCode::SUCCESS;
-        }
-        Err(Stop::Differs(session)) => comparison.report(&session),
-        Err(Stop::Failed(error)) => Err(error),
-    };
-    if let Err(error) = stopped {
-        eprintln!("compare-sessions: {}: {error}", comparison.program);
-    }
-    ExitCode::FAILURE
-}
-
-#[cfg(test)]
-mod tests {
-    use super::*;
-
-    #[test]
-    fn the_sessions_show_everything_that_a_log_can() {
-        let mut tally = Tally::default();
-        for seed in DEFAULT_SEED..DEFAULT_SEED + DEFAULT_COUNT {
-            tally.count(&session::log(&generate::session(seed)));
-        }
-        assert_eq!(tally.missing(), [""; 0]);
-        assert!(tally.of("C") > 10_000 && tally.of("W") > 5_000, "{}", tally.text());
-    }
-
-    #[test]
-    fn a_seed_always_makes_the_same_session() {
-        assert_eq!(generate::session(7), generate::session(7));
-        assert_ne!(generate::session(7), generate::session(8));
     }
 }

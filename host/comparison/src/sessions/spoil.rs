@@ -1,0 +1,66 @@
+//! Errors that announcements and applications are given.
+
+use crate::damage::put_near;
+use crate::random::Random;
+use crate::sessions::days::{day_after, day_before};
+use crate::sessions::plan::MOST_AMOUNT;
+use independent::application::{Draft, PLACES};
+use independent::compose::Announcement;
+
+/// Days that are not in the calendar, and leap days that are.
+pub const RARE_DATES: [u64; 9] = [
+    29_022_011, 29_021_900, 29_022_100, 29_022_000, 29_022_400, 31_041_999, 1_131_999, 31_121_899,
+    120,
+];
+
+/// Sets one part of the announcement beyond or at a boundary of conditions 3 to 6.
+pub fn disorder(random: &mut Random, announcement: &mut Announcement) {
+    match random.below(10) {
+        0 => announcement.most_bids = random.pick(&[0, 11, 99]),
+        1 => announcement.offered = 0,
+        2 => announcement.minimum = 0,
+        3 => announcement.increment = 0,
+        4 => announcement.maximum = announcement.minimum.saturating_sub(1),
+        5 => announcement.reference = day_after(announcement.execution),
+        6 => announcement.spot = day_before(announcement.execution),
+        7 => announcement.forward = announcement.spot,
+        8 => announcement.execution = random.pick(&RARE_DATES),
+        _ => announcement.cut_off = random.pick(&[240_000, 105_960]),
+    }
+}
+
+/// Puts near bytes into several parts of an announcement, mostly none.
+pub fn spoil_parts(random: &mut Random, message: &mut [u8]) {
+    for (start, end) in [(3, 6), (9, 14), (17, 22), (59, 70), (73, 91), (73, 91), (94, 194)] {
+        if random.one_in(10) {
+            put_near(random, &mut message[start..end]);
+        }
+    }
+}
+
+/// Gives the application one of the errors that numbers can have.
+pub fn spoil(random: &mut Random, application: &mut Draft) {
+    let place = random.index(PLACES);
+    match random.below(11) {
+        0 => application.kind = b"6G2",
+        1 => application.sender = random.pick(&[0, 99_999, application.sender ^ 1]).min(99_999),
+        2 => application.recipient = 1001,
+        3 => application.date = day_after(application.date),
+        4 => application.date = random.pick(&RARE_DATES),
+        5 => application.time = random.pick(&[240_000, 105_960, 106_000]),
+        6 => application.identifier = b"T/2012/0002",
+        7 => application.places[place] = (0, 0),
+        8 => application.places[place].0 ^= random.pick(&[1, 8, 4]),
+        9 => application.places[place].1 ^= 1,
+        _ => application.places[place].1 = MOST_AMOUNT,
+    }
+}
+
+/// Puts near bytes into several digit fields at once.
+pub fn spoil_texts(random: &mut Random, message: &mut [u8]) {
+    for (start, end) in [(9, 14), (17, 22), (25, 36), (39, 47), (50, 56), (59, 64), (81, 321)] {
+        if random.one_in(3) {
+            put_near(random, &mut message[start..end]);
+        }
+    }
+}
