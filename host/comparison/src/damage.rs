@@ -23,7 +23,8 @@ pub fn damage(random: &mut Random, bytes: &mut Vec<u8>) {
     }
 }
 
-fn flip_bit(random: &mut Random, bytes: &mut [u8]) {
+/// Flips a bit somewhere.
+pub fn flip_bit(random: &mut Random, bytes: &mut [u8]) {
     let index = random.index(bytes.len());
     bytes[index] ^= 1 << random.below(8);
 }
@@ -48,14 +49,16 @@ pub fn fields_of(bytes: &[u8]) -> Vec<&[u8]> {
     fields
 }
 
-fn swap_fields(random: &mut Random, bytes: &mut Vec<u8>) {
+/// Swaps two fields.
+pub fn swap_fields(random: &mut Random, bytes: &mut Vec<u8>) {
     let mut fields = fields_of(bytes);
     let (one, other) = (random.index(fields.len()), random.index(fields.len()));
     fields.swap(one, other);
     *bytes = fields.concat();
 }
 
-fn double_field(random: &mut Random, bytes: &mut Vec<u8>) {
+/// Repeats a field.
+pub fn double_field(random: &mut Random, bytes: &mut Vec<u8>) {
     let mut fields = fields_of(bytes);
     let index = random.index(fields.len());
     fields.insert(index, fields[index]);
@@ -63,7 +66,7 @@ fn double_field(random: &mut Random, bytes: &mut Vec<u8>) {
 }
 
 /// Changes a length by one, or the bytes of a field but not its length.
-fn change_length(random: &mut Random, bytes: &mut Vec<u8>) {
+pub fn change_length(random: &mut Random, bytes: &mut Vec<u8>) {
     let mut fields: Vec<Vec<u8>> = fields_of(bytes).into_iter().map(<[u8]>::to_vec).collect();
     let index = random.index(fields.len());
     let field = &mut fields[index];

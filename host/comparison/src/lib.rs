@@ -4,5 +4,8 @@
 
 pub mod arguments;
 pub mod damage;
+pub mod interface;
+pub mod library;
+pub mod messages;
 pub mod random;
 pub mod sessions;

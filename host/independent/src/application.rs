@@ -7,12 +7,12 @@ use crate::refusal::Refusal;
 
 /// The places of an application.
 pub const PLACES: usize = 10;
-const PLACE_BYTES: usize = 24;
+pub(crate) const PLACE_BYTES: usize = 24;
 const RATE_DIGITS: usize = 8;
 const AMOUNT_DIGITS: usize = 15;
 const ZERO_PLACE: &[u8; PLACE_BYTES] = b"00000000/000000000000000";
 
-const LAYOUT: [(u8, usize); 10] = [
+pub(crate) const LAYOUT: [(u8, usize); 10] = [
     (0x01, 3),
     (0x04, 5),
     (0x05, 5),
@@ -25,7 +25,7 @@ const LAYOUT: [(u8, usize); 10] = [
     (0x7f, 15),
 ];
 
-const STARTS: [usize; 10] = {
+pub(crate) const STARTS: [usize; 10] = {
     let mut starts = [0; 10];
     let mut index = 0;
     while index < 10 {

@@ -23,7 +23,7 @@ pub const fn whole(layout: &Layout) -> usize {
 }
 
 /// The header of a field.
-pub fn header(tag: u8, length: usize) -> [u8; HEADER] {
+pub const fn header(tag: u8, length: usize) -> [u8; HEADER] {
     [tag, (length >> 8) as u8, length as u8]
 }
 

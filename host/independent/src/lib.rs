@@ -2,7 +2,8 @@
 //! points in docs/DECISIONS.md, without a look at the Rattle sources.
 //!
 //! It shares no line with the proved crates, so that the two can be compared. `session` logs whole
-//! sessions, `application` reads and writes a 6G1, `compose` makes sessions for tests.
+//! sessions, `application` reads and writes a 6G1, `interface` does so through the calls that a host
+//! in C has, `compose` makes sessions for tests.
 #![forbid(unsafe_code)]
 
 pub mod announcement;
@@ -13,6 +14,7 @@ pub mod compose;
 pub mod digits;
 pub mod envelope;
 pub mod errors;
+pub mod interface;
 pub mod refusal;
 pub mod rules;
 pub mod session;

@@ -1,0 +1,97 @@
+//! The calls of include/optes.h, which the library and the independent implementation both have.
+
+use independent::interface;
+
+/// How many numbers a 6G1 is written from: six digit fields, ten rates and ten amounts.
+pub const NUMBERS: usize = 26;
+
+/// What a 6G1 is written from.
+#[derive(Clone, Copy, Debug, PartialEq, Eq)]
+pub struct Fields<'a> {
+    pub numbers: [u64; NUMBERS],
+    pub kind: &'a [u8],
+    pub identifier: &'a [u8],
+    pub name: &'a [u8],
+}
+
+/// The calls; each takes the raw bytes of a message.
+pub trait Interface {
+    fn read(message: &[u8]) -> u32;
+    fn has_field(message: &[u8], field: u32) -> u32;
+    fn start(message: &[u8], field: u32) -> usize;
+    fn length(message: &[u8], field: u32) -> usize;
+    fn has_number(message: &[u8], field: u32) -> u32;
+    fn number(message: &[u8], field: u32) -> u64;
+    fn has_place(message: &[u8], place: u32) -> u32;
+    fn rate(message: &[u8], place: u32) -> u32;
+    fn amount(message: &[u8], place: u32) -> u64;
+    fn write(fields: &Fields, space: &mut [u8]) -> u32;
+}
+
+/// Calls a function with the numbers of some fields one by one, and then with more.
+macro_rules! with_numbers {
+    ($call:path, $n:expr, $($more:expr),+) => {
+        $call(
+            $n[0], $n[1], $n[2], $n[3], $n[4], $n[5], $n[6], $n[7], $n[8], $n[9], $n[10], $n[11],
+            $n[12], $n[13], $n[14], $n[15], $n[16], $n[17], $n[18], $n[19], $n[20], $n[21], $n[22],
+            $n[23], $n[24], $n[25], $($more),+
+        )
+    };
+}
+pub(crate) use with_numbers;
+
+/// The independent implementation.
+pub struct Independent;
+
+impl Interface for Independent {
+    #[inline(always)]
+    fn read(message: &[u8]) -> u32 {
+        interface::read(message)
+    }
+
+    #[inline(always)]
+    fn has_field(message: &[u8], field: u32) -> u32 {
+        interface::has_field(message, field)
+    }
+
+    #[inline(always)]
+    fn start(message: &[u8], field: u32) -> usize {
+        interface::start(message, field)
+    }
+
+    #[inline(always)]
+    fn length(message: &[u8], field: u32) -> usize {
+        interface::length(message, field)
+    }
+
+    #[inline(always)]
+    fn has_number(message: &[u8], field: u32) -> u32 {
+        interface::has_number(message, field)
+    }
+
+    #[inline(always)]
+    fn number(message: &[u8], field: u32) -> u64 {
+        interface::number(message, field)
+    }
+
+    #[inline(always)]
+    fn has_place(message: &[u8], place: u32) -> u32 {
+        interface::has_place(message, place)
+    }
+
+    #[inline(always)]
+    fn rate(message: &[u8], place: u32) -> u32 {
+        interface::rate(message, place)
+    }
+
+    #[inline(always)]
+    fn amount(message: &[u8], place: u32) -> u64 {
+        interface::amount(message, place)
+    }
+
+    #[inline(always)]
+    fn write(fields: &Fields, space: &mut [u8]) -> u32 {
+        let &Fields { numbers, kind, identifier, name } = fields;
+        with_numbers!(interface::write, numbers, kind, identifier, name, space)
+    }
+}

@@ -1,0 +1,91 @@
+//! The comparison of the calls that read.
+
+use crate::interface::{Fields, Independent, Interface, NUMBERS};
+use crate::library::Library;
+use crate::messages::difference::{same, Difference};
+use crate::messages::tally::{Outcome, Tally, DIGIT_FIELDS};
+use independent::application::{is_identifier, PLACES};
+
+const TYPE: u32 = 0;
+const IDENTIFIER: u32 = 7;
+const NAME: u32 = 9;
+
+/// Fields and places that there are, the first that there are not, and some that would seem to be
+/// there if a number were cut.
+const ASKED: [u32; 16] =
+    [0, 1, 2, 3, 4, 5, 6, 7, 8, 9, 10, 11, 0x103, 0x1_0003, 0x8000_0003, u32::MAX];
+
+/// Compares every call that reads the message.
+pub fn compare(message: &[u8]) -> Result<(), Difference> {
+    same(Library::read(message), Independent::read(message), || "read".to_string())?;
+    ASKED.into_iter().try_for_each(|number| {
+        same(
+            field_answers::<Library>(message, number),
+            field_answers::<Independent>(message, number),
+            || format!("has_field, start, length, has_number, number of field {number}"),
+        )?;
+        same(
+            place_answers::<Library>(message, number),
+            place_answers::<Independent>(message, number),
+            || format!("has_place, rate, amount of place {number}"),
+        )
+    })
+}
+
+fn field_answers<I: Interface>(message: &[u8], field: u32) -> (u32, usize, usize, u32, u64) {
+    (
+        I::has_field(message, field),
+        I::start(message, field),
+        I::length(message, field),
+        I::has_number(message, field),
+        I::number(message, field),
+    )
+}
+
+fn place_answers<I: Interface>(message: &[u8], place: u32) -> (u32, u32, u64) {
+    (I::has_place(message, place), I::rate(message, place), I::amount(message, place))
+}
+
+/// The numbers and texts that reading gives, zeros where there are none.
+pub fn fields<I: Interface>(message: &[u8]) -> Fields<'_> {
+    let text = |field| {
+        let start = I::start(message, field);
+        &message[start..start + I::length(message, field)]
+    };
+    let numbers: [u64; NUMBERS] = std::array::from_fn(|index| match index {
+        0..=5 => I::number(message, index as u32 + 1),
+        6..=15 => u64::from(I::rate(message, index as u32 - 6)),
+        _ => I::amount(message, index as u32 - 16),
+    });
+    Fields { numbers, kind: text(TYPE), identifier: text(IDENTIFIER), name: text(NAME) }
+}
+
+/// Whether the message is readable and its digit fields, places and identifier are well formed.
+pub fn is_well_formed<I: Interface>(message: &[u8]) -> bool {
+    I::read(message) == 0
+        && DIGIT_FIELDS.into_iter().all(|field| I::has_number(message, field) == 1)
+        && (0..PLACES as u32).all(|place| I::has_place(message, place) == 1)
+        && is_identifier(fields::<I>(message).identifier)
+}
+
+/// Counts what reading the message shows.
+pub fn count(message: &[u8], tally: &mut Tally) {
+    if Independent::read(message) != 0 {
+        return tally.add(Outcome::Unreadable);
+    }
+    tally.add(Outcome::Readable);
+    for field in DIGIT_FIELDS {
+        let has = Independent::has_number(message, field) == 1;
+        tally.add(if has { Outcome::Number(field) } else { Outcome::NoNumber(field) });
+    }
+    for place in 0..PLACES as u32 {
+        let has = Independent::has_place(message, place) == 1;
+        tally.add(if has { Outcome::Place(place) } else { Outcome::NoPlace(place) });
+    }
+    if is_well_formed::<Independent>(message) {
+        tally.add(Outcome::WellFormed);
+    }
+    if !is_identifier(fields::<Independent>(message).identifier) {
+        tally.add(Outcome::MalformedIdentifier);
+    }
+}
