@@ -23,11 +23,11 @@ fn readable(message: &[u8]) -> Option<&[u8; LENGTH]> {
     let message: &[u8; LENGTH] = message.try_into().ok()?;
     let mut differences = 0;
     for (start, head) in HEADS {
-        // No field is empty, so that a byte stands after each head.
-        let bytes = [message[start], message[start + 1], message[start + 2], 0];
-        differences |= u32::from_le_bytes(bytes) ^ head;
+        let four = message[start..start + 4].try_into().ok()?;
+        differences |= u32::from_le_bytes(four) ^ head;
     }
-    (differences == 0).then_some(message)
+    // No field is empty, so that a byte of it stands after each head, and its difference is let be.
+    (differences & 0x00ff_ffff == 0).then_some(message)
 }
 
 #[inline]

@@ -13,26 +13,6 @@ const HEADING_BOUNDS: Heading =
 const RATE_BOUND: u64 = 100_000_000;
 const AMOUNT_BOUND: u64 = 1_000_000_000_000_000;
 
-/// A 6G1 with its heads and slashes, and zeros for the rest.
-const BLANK: [u8; LENGTH] = {
-    let mut blank = [b'0'; LENGTH];
-    let mut index = 0;
-    while index < LAYOUT.len() {
-        let head = envelope::header(LAYOUT[index].0, LAYOUT[index].1);
-        let start = STARTS[index] - HEADER;
-        blank[start] = head[0];
-        blank[start + 1] = head[1];
-        blank[start + 2] = head[2];
-        index += 1;
-    }
-    let mut place = 0;
-    while place < PLACES {
-        blank[STARTS[Field::Bids as usize] + PLACE_BYTES * place + 8] = b'/';
-        place += 1;
-    }
-    blank
-};
-
 /// The three texts, each of its length.
 struct Texts<'a> {
     kind: &'a [u8; 3],
@@ -61,6 +41,13 @@ fn is_identifier(text: &[u8; 11]) -> bool {
 #[inline]
 fn put<const WIDTH: usize>(out: &mut [u8; LENGTH], start: usize, bytes: [u8; WIDTH]) {
     out[start..start + WIDTH].copy_from_slice(&bytes);
+}
+
+#[inline]
+fn put_heads(out: &mut [u8; LENGTH]) {
+    for (index, &(tag, length)) in LAYOUT.iter().enumerate() {
+        put(out, STARTS[index] - HEADER, envelope::header(tag, length));
+    }
 }
 
 #[inline]
@@ -145,7 +132,7 @@ fn write_parts(
         && amounts.iter().all(|&amount| amount < AMOUNT_BOUND);
     let (true, Some(texts)) = (numbers_fit, texts) else { return UNFIT };
     let Some(out) = space.first_chunk_mut::<LENGTH>() else { return NO_ROOM };
-    *out = BLANK;
+    put_heads(out);
     put_heading(out, heading);
     put_places(out, rates, amounts);
     put(out, STARTS[Field::Type as usize], *texts.kind);

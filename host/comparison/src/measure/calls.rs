@@ -1,0 +1,144 @@
+//! Measures of the calls of the C interface.
+
+use crate::interface::{Fields, Independent, Interface};
+use crate::library::Library;
+use crate::measure::table::print_nanoseconds;
+use crate::measure::timing::alternate;
+use crate::messages::generate::Parts;
+use crate::random::Random;
+use independent::application::{LENGTH, PLACES};
+use std::convert::Infallible;
+use std::hint::black_box;
+
+/// How many different messages are read and written in turn.
+const MESSAGES: u64 = 64;
+/// How often each side is run; a run takes a millisecond or a few.
+const RUNS: usize = 200;
+const DIGIT_FIELDS: [u32; 6] = [1, 2, 3, 4, 5, 6];
+
+/// What `optes_application_read` of include/optes.h fills.
+#[derive(Default, PartialEq)]
+struct Application {
+    numbers: [u64; 6],
+    has_number: [u32; 6],
+    places: [Place; PLACES],
+    kind: [u8; 3],
+    identifier: [u8; 11],
+    name: [u8; 15],
+}
+
+#[derive(Default, PartialEq)]
+struct Place {
+    rate: u64,
+    amount: u64,
+    well_formed: u32,
+}
+
+impl Application {
+    /// Reads a message by the calls of `optes_application_read`, in their order.
+    fn read<I: Interface>(&mut self, message: &[u8]) -> u32 {
+        let refusal = I::read(message);
+        if refusal != 0 {
+            return refusal;
+        }
+        for (number, field) in self.numbers.iter_mut().zip(DIGIT_FIELDS) {
+            *number = I::number(message, field);
+        }
+        for (has, field) in self.has_number.iter_mut().zip(DIGIT_FIELDS) {
+            *has = I::has_number(message, field);
+        }
+        for (place, index) in self.places.iter_mut().zip(0..) {
+            place.rate = u64::from(I::rate(message, index));
+            place.amount = I::amount(message, index);
+            place.well_formed = I::has_place(message, index);
+        }
+        self.kind.copy_from_slice(&message[I::start(message, 0)..][..3]);
+        self.identifier.copy_from_slice(&message[I::start(message, 7)..][..11]);
+        self.name.copy_from_slice(&message[I::start(message, 9)..][..15]);
+        0
+    }
+}
+
+fn read_all<I: Interface>(messages: &[Vec<u8>]) {
+    for message in messages {
+        let mut application = Application::default();
+        black_box(application.read::<I>(black_box(message)));
+        black_box(&application);
+    }
+}
+
+fn read_alone<I: Interface>(messages: &[Vec<u8>]) {
+    for message in messages {
+        black_box(I::read(black_box(message)));
+    }
+}
+
+fn numbers_alone<I: Interface>(messages: &[Vec<u8>]) {
+    for message in messages {
+        for field in DIGIT_FIELDS {
+            black_box(I::number(black_box(message), black_box(field)));
+        }
+    }
+}
+
+fn write_all<I: Interface>(inputs: &[Fields]) {
+    let mut space = [0; LENGTH];
+    for fields in inputs {
+        black_box(I::write(black_box(fields), &mut space));
+        black_box(&space);
+    }
+}
+
+/// Measures two functions over the same input, each run so many turns, and prints the row.
+fn measure<T: ?Sized>(
+    what: &str,
+    input: &T,
+    (turns, calls): (u64, u64),
+    library: fn(&T),
+    independent: fn(&T),
+) {
+    let run = |function: fn(&T)| {
+        (0..turns).for_each(|_| function(black_box(input)));
+        Ok::<(), Infallible>(())
+    };
+    let measured = alternate(RUNS, || run(library), || run(independent));
+    let least = measured.unwrap_or_else(|never| match never {});
+    print_nanoseconds(what, least, turns * calls);
+}
+
+/// Whether both sides read and write the input alike.
+fn agree(messages: &[Vec<u8>], inputs: &[Fields]) -> bool {
+    messages.iter().zip(inputs).all(|(message, fields)| {
+        let (mut library, mut independent) = (Application::default(), Application::default());
+        let (mut written, mut expected) = ([0; LENGTH], [1; LENGTH]);
+        library.read::<Library>(message) == 0
+            && independent.read::<Independent>(message) == 0
+            && library == independent
+            && Library::write(fields, &mut written) == 0
+            && Independent::write(fields, &mut expected) == 0
+            && written == expected
+            && written[..] == message[..]
+    })
+}
+
+/// Measures reading and writing, or tells that the two sides do not agree.
+pub fn measure_calls() -> Result<(), String> {
+    let random = &mut Random::new(6);
+    let parts: Vec<Parts> = (0..MESSAGES).map(|_| Parts::sound(random)).collect();
+    let inputs: Vec<Fields> = parts.iter().map(Parts::fields).collect();
+    let messages: Vec<Vec<u8>> = parts.iter().map(Parts::message).collect();
+    if !agree(&messages, &inputs) {
+        return Err("the library and the independent calls differ".to_string());
+    }
+    let m = &messages[..];
+    let all = "a 6G1 read as optes_application_read does, 46 calls";
+    measure(all, m, (30, MESSAGES), read_all::<Library>, read_all::<Independent>);
+    let alone = "optes_6g1_read alone";
+    measure(alone, m, (1000, MESSAGES), read_alone::<Library>, read_alone::<Independent>);
+    let number = "optes_6g1_number alone";
+    let counts = (150, 6 * MESSAGES);
+    measure(number, m, counts, numbers_alone::<Library>, numbers_alone::<Independent>);
+    let write = "a 6G1 written by optes_6g1_write";
+    measure(write, &inputs[..], (100, MESSAGES), write_all::<Library>, write_all::<Independent>);
+    Ok(())
+}
