@@ -8,7 +8,7 @@ use std::path::Path;
 use std::process::{Command, Stdio};
 
 /// How often each program is run.
-const RUNS: usize = 15;
+const RUNS: usize = 21;
 
 /// A session to measure: its file, what the table says of it, and what makes it.
 type Measured = (&'static str, &'static str, fn() -> Vec<u8>);
