@@ -7,7 +7,7 @@ use crate::envelope::{self, HEADER};
 
 /// The numbers of the digit fields, in the order of the fields.
 type Heading = [u64; 6];
-/// The numbers above those that fit, for the digit fields, a rate and an amount.
+/// The least numbers that are too wide: for the digit fields, for a rate and for an amount.
 const HEADING_BOUNDS: Heading =
     [100_000, 100_000, 100_000_000_000, 100_000_000, 1_000_000, 100_000];
 const RATE_BOUND: u64 = 100_000_000;
