@@ -23,7 +23,7 @@ use Rattle.journal.specs.Viewed.{viewed, kept, Steps, steppedIn}
 use Rattle.journal.specs.Whole.{StepsAll, no-more, and-next, LogOfSteps}
 
 -- two steps alike: a journal keeps the same of both, and their lines are the same
-abbrev Alike : Step → Step → Type 0
+abbrev pub Alike : Step → Step → Type 0
 Alike a b = (kept (a .0) ≡ kept (b .0)) × (a .1 ≡ b .1)
 
 -- either step alike, whatever the test
@@ -36,7 +36,7 @@ module _ (l : Log) where
   codes-twice : take 65 (take 65 (l .codes)) ≡ take 65 (l .codes)
   codes-twice = take-take 65 65 (l .codes) (omega arith)
 
-  kept-twice : kept (kept l) ≡ kept l
+  pub kept-twice : kept (kept l) ≡ kept l
   kept-twice = λ i. record { ended = l .ended; codes = codes-twice i; tender = l .tender }
 
   ends : Alike (ending (kept l)) (ending l)
@@ -102,7 +102,7 @@ kept-step l tag s =
     (ends l)))))))
 
 -- logs of which a journal keeps the same make steps alike
-same-step : (l k : Log) (tag : ℕ) (s : List ℕ) → kept l ≡ kept k → Alike (step l tag s) (step k tag s)
+pub same-step : (l k : Log) (tag : ℕ) (s : List ℕ) → kept l ≡ kept k → Alike (step l tag s) (step k tag s)
 same-step l k tag s e =
     let p = kept-step l tag s in
     let q = kept-step k tag s in (
@@ -116,7 +116,7 @@ written-first space text after n w =
     ap (take n) (w .bytes ∙ from-start space text) ∙ take-at text (drop (length text) space) n (sym (w .past ∙ zero-add (length text)))
 
 -- a space with room takes the step
-steps-in-room : (l : Log) (tag : ℕ) (s space after : List ℕ) (r : Stepped) → 23040 ≤ length space → Steps (steppedIn space l tag s) space r after → Steps (step l tag s) space r after
+pub steps-in-room : (l : Log) (tag : ℕ) (s space after : List ℕ) (r : Stepped) → 23040 ≤ length space → Steps (steppedIn space l tag s) space r after → Steps (step l tag s) space r after
 steps-in-room l tag s space after r h d = subst (λ (b : Bool). Steps (cond b (l, []) (step l tag s)) space r after) (le-ltb (length space) 23040 h) d
 
 -- what a step of the code writes and leaves, from any log of which the journal keeps the same

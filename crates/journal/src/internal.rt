@@ -56,7 +56,7 @@ pub fn silent(j: Journal) -> Stepped
 }
 
 // The journal with a tender.
-fn with_tender(j: Journal, tender: Tender) -> Journal
+pub fn with_tender(j: Journal, tender: Tender) -> Journal
     ensures { λ r. ⌜ r ≡ withTender j tender ⌝ }
 {
     let codes = j.codes;
@@ -149,7 +149,7 @@ pub fn announcement(j: Journal, s: &[u8], space: &mut [u8]) -> Stepped
 }
 
 // The date that a field begins with; zero, which is none, where the clock is not digits.
-fn date_of(s: &[u8]) -> u64
+pub fn date_of(s: &[u8]) -> u64
     requires { ⌜ 14 ≤ length (now s) ⌝ }
     ensures { λ r. ⌜ r ≡ dateOf (now (s .entry)) ⌝ }
 {
@@ -160,7 +160,7 @@ fn date_of(s: &[u8]) -> u64
 }
 
 // The time after the date.
-fn time_of(s: &[u8]) -> u64
+pub fn time_of(s: &[u8]) -> u64
     requires { ⌜ 14 ≤ length (now s) ⌝ }
     ensures { λ r. ⌜ r ≡ timeOf (now (s .entry)) ⌝ }
 {
@@ -168,7 +168,7 @@ fn time_of(s: &[u8]) -> u64
 }
 
 // Writes the line of a reception.
-fn put_answer(space: &mut [u8], s: &[u8], m: &[u8], r: Refusal, e: Errors) -> usize
+pub fn put_answer(space: &mut [u8], s: &[u8], m: &[u8], r: Refusal, e: Errors) -> usize
     requires { ⌜ (numberOf r ≡ none → readable layout6G1 (now m) ≡ true) ⌝ }
     requires { ⌜ (e .n ≤ 16) × (14 ≤ length (now s)) × (74 ≤ length (now space)) ⌝ }
     requires { ⌜ now m ≡ drop 14 (now s) ⌝ }

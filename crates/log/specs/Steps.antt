@@ -151,6 +151,10 @@ walked (suc d) l s =
     (step l (tagOf s) (contentOf s) .1 ++ walked d (step l (tagOf s) (contentOf s) .0) (afterField s))
     []
 
--- the log of a byte string: it has no more fields than bytes
+-- the log of a byte string from a state on: it has no more fields than bytes
+abbrev pub logFrom : Log → List ℕ → List ℕ
+logFrom l s = walked (length s) l s
+
+-- the log of a byte string
 unfoldable pub logOf : List ℕ → List ℕ
-logOf s = walked (length s) start s
+logOf s = logFrom start s

@@ -1,7 +1,7 @@
--- `session_log::log_all` meets its contract: the turns fall, and each takes a journal that a step gave. Assumes nothing.
+-- `session_log::log_all` meets its contract: the turns fall, and each takes what the last one gave. Assumes nothing.
 use borrow.Author.Needs.{needs}
 use mathlib.Core.Path.{_≡_, refl}
-use Prim.Native.Nat.{_<_}
+use Prim.Native.Nat.{_≤_, _<_}
 use native.Mathlib.Omega.{arith}
 use borrow.Author.Tests.{ltb-true}
 use lib.Dec.{ltb}
@@ -12,32 +12,33 @@ use Rattle.session_log.proofs.log_all.Statement.{statement}
 use Rattle.session_log.proofs.log_all.Tie as tie
 
 abbrev Inv-loop : tie.InvT-loop
-Inv-loop content₀ lines₀ now₀ turns₀ content lines now turns = (length content ≡ length content₀) × (length lines ≡ length lines₀) × Given (now .journal)
+Inv-loop input₀ lines₀ now₀ turns₀ input lines now turns =
+    (length input ≡ length input₀) × (length lines ≡ length lines₀) × Given (now .journal) × (now .from ≤ now .to) × (now .to ≤ length input)
 
 abbrev μ-loop : tie.MeasureT-loop
-μ-loop content₀ lines₀ now₀ turns₀ content lines now turns = turns
+μ-loop input₀ lines₀ now₀ turns₀ input lines now turns = turns
 
 start-requires : tie.Need-start-requires Inv-loop μ-loop
 start-requires c κs = search needs
 
 loop-holds : tie.Need-loop-holds Inv-loop μ-loop
-loop-holds c = (refl, refl, c .start .ensures .1)
+loop-holds c = (refl, refl, c .start .ensures .1, omega arith, omega arith)
 
-next-field-requires : tie.Need-next-field-requires Inv-loop μ-loop
-next-field-requires c κs = c .before .before .before .before .before .loop .inv .2
+next-turn-requires : tie.Need-next-turn-requires Inv-loop μ-loop
+next-turn-requires c κs = let h = c .before .before .before .before .loop .inv in (h .2, h .3, h .4)
 
 -- a turn is left
 some : (c : tie.Then1 Inv-loop μ-loop) → 0 < c .before .before .loop .turns
 some c = ltb-true 0 (c .before .before .loop .turns) (and-left (ltb 0 (c .before .before .loop .turns)) (c .before .before .loop .now .more) (c .if1 .taken))
 
 sub-turns : tie.Need-sub-turns Inv-loop μ-loop
-sub-turns c = some (c .before .before .before .before .before .before .before .before)
+sub-turns c = some (c .before .before .before .before .before .before .before)
 
 loop-less : tie.Need-loop-less Inv-loop μ-loop
-loop-less c = omega (arith, some (c .before .before .before .before .before .before .before .before))
+loop-less c = omega (arith, some (c .before .before .before .before .before .before .before))
 
 loop-again : tie.Need-loop-again Inv-loop μ-loop
-loop-again c = (omega arith, omega arith, c .before .before .before .before .next-field .ensures)
+loop-again c = let h = c .before .before .before .before .next-turn .ensures in (omega arith, omega arith, h .0, h .1, omega (arith, h .2))
 
 same-length : tie.Need-same-length Inv-loop μ-loop
 same-length c = omega arith
@@ -56,7 +57,7 @@ log-all-spec =
     μ-loop
     start-requires
     loop-holds
-    next-field-requires
+    next-turn-requires
     sub-turns
     loop-less
     loop-again

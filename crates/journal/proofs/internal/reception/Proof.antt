@@ -23,6 +23,7 @@ use Rattle.tender.specs.Viewed.{numberOf, answerOf}
 use Rattle.journal.specs.Viewed.{viewed}
 use Rattle.journal.proofs.Stepping.{steps-as, skipped, ended, no-tender, called}
 use Rattle.journal.proofs.Answered.{readable-answered}
+use Rattle.journal.proofs.Noting.{reception-is, message-is}
 use Rattle.journal.proofs.internal.reception.Statement.{statement}
 use Rattle.journal.proofs.internal.reception.Tie as tie
 
@@ -81,14 +82,6 @@ slice-aggregate-receive c = search needs
 
 receive-requires : tie.Need-receive-requires
 receive-requires c κs = search needs
-
--- the message is what follows the clock
-message-is : (s : List ℕ) → take (length s - 14) (drop 14 s) ≡ drop 14 s
-message-is s = take-all (length s - 14) (drop 14 s) (omega (arith, length-drop 14 s))
-
-reception-is : (s m : List ℕ) (date time : ℕ) → m ≡ drop 14 s → date ≡ dateOf s → time ≡ timeOf s → checks.received m date time (replicate 418 0) ≡ receptionIn s
-unfolding receptionIn
-reception-is s m date time p q h = λ i. record { message = p i; date = q i; time = h i; space = replicate 418 0 }
 
 message-readable : (s : List ℕ) (t : rules.Tender) (r : Received) → answerOf r ≡ rules.receive t (receptionIn s) .0 → numberOf (r .refusal) ≡ none → readable layout6G1 (drop 14 s) ≡ true
 unfolding receptionIn

@@ -1,0 +1,134 @@
+-- Laws of runs: nothing taken yet, one field more, and one run after another. Assumes nothing.
+use mathlib.Core.Path.{_≡_, refl, sym, ap, ap₂, subst, _∙_}
+use mathlib.Core.Bool.{Bool, true, false, cond, not, _&&_}
+use mathlib.Core.List.{List, [], _∷_, _++_, append-assoc}
+use mathlib.Core.Option.{Option, some}
+use Prim.Native.Nat.{ℕ, zero, suc, _+_, _-_, _≤_}
+use native.Mathlib.Nat.{add-zero, zero-add}
+use native.Mathlib.Omega.{arith}
+use lib.Dec.{eqb, ltb, leb}
+use lib.ListN.{length, take, drop, getD, length-drop}
+use lib.Seq.{drop-drop, getD-drop, length-take-le}
+use borrow.Author.Tests.{eq-eqb, eqb-true, leb-true, le-ltb}
+use Rattle.laws.proofs.Tests.{and-left, and-right}
+use Rattle.output.specs.Output.{overlay, Wrote}
+use Rattle.output.proofs.Output.{nothing, then, from-start}
+use Rattle.layout.specs.Fields.{lengthAt}
+use Rattle.rules.specs.Calls as rules
+use Rattle.log.specs.Steps.{Log, Step, received, reception, step, tagOf, contentOf, afterField, holdsField, walked, logFrom}
+use Rattle.log.proofs.Walks.{held-head, held-whole, field-first}
+use Rattle.journal.specs.Viewed.{kept}
+use Rattle.journal.specs.Runs.{Runs, receptionFirst}
+use Rattle.journal.proofs.Whole.{same-step, kept-twice}
+
+-- logs of which a journal keeps the same go on alike
+walked-kept : (d : ℕ) (l k : Log) (s : List ℕ) → kept l ≡ kept k → walked d l s ≡ walked d k s
+unfolding walked
+walked-kept zero l k s e = refl
+walked-kept (suc d) l k s e =
+    let a = same-step l k (tagOf s) (contentOf s) e in
+    λ i. cond (holdsField s && not (e i .ended)) (a .1 i ++ walked-kept d (step l (tagOf s) (contentOf s) .0) (step k (tagOf s) (contentOf s) .0) (afterField s) (a .0) i) []
+
+log-kept : (l : Log) (s : List ℕ) → logFrom l s ≡ logFrom (kept l) s
+log-kept l s = walked-kept (length s) l (kept l) s (sym (kept-twice l))
+
+-- nothing taken yet
+pub none-taken : (l : Log) (s space : List ℕ) → Runs l s space l s space 0
+none-taken l s space = record { text = []; wrote = nothing space 0; log = λ rest. refl }
+
+-- a run that leads to another log under another name, or to one that goes on alike
+pub leads-to : {l k j : Log} {s space x after : List ℕ} {n : ℕ} → k ≡ j → Runs l s space k x after n → Runs l s space j x after n
+leads-to {l} {k} {j} {s} {space} {x} {after} {n} e r = subst (λ (o : Log). Runs l s space o x after n) e r
+
+pub keeps : {l k : Log} {s space x after : List ℕ} {n : ℕ} → Runs l s space k x after n → Runs l s space (kept k) x after n
+keeps {k = k} {x = x} r = record { text = r .text; wrote = r .wrote; log = λ rest. r .log rest ∙ ap (λ (t : List ℕ). r .text ++ t) (log-kept k (x ++ rest)) }
+
+-- one field more
+pub one-taken : {l k : Log} {s space x after next : List ℕ} {n m : ℕ}
+    → Runs l s space k x after n → holdsField x ≡ true → k .ended ≡ false → Wrote after n (step k (tagOf x) (contentOf x) .1) next m
+    → Runs l s space (step k (tagOf x) (contentOf x) .0) (afterField x) next m
+one-taken {k = k} {x = x} r h e w =
+    record {
+      text = r .text ++ step k (tagOf x) (contentOf x) .1;
+      wrote = then (omega arith) (r .wrote) w;
+      log = λ rest.
+          r .log rest
+          ∙ ap (λ (t : List ℕ). r .text ++ t) (field-first x rest h k e)
+          ∙ sym (append-assoc (r .text) (step k (tagOf x) (contentOf x) .1) (logFrom (step k (tagOf x) (contentOf x) .0) (afterField x ++ rest)));
+    }
+
+-- a write at the start of what follows an index is one at the index
+pub part-wrote : (d : List ℕ) (at m : ℕ) (text part : List ℕ) → Wrote (drop at d) 0 text part m → Wrote d at text (take at d ++ part) (at + m)
+unfolding overlay
+part-wrote d at m text part w =
+    let e = zero-add (length text) in
+    record {
+      bytes =
+          ap (λ (p : List ℕ). take at d ++ p) (w .bytes ∙ from-start (drop at d) text ∙ ap (λ (t : List ℕ). text ++ t) (drop-drop (length text) at d))
+          ∙ sym (append-assoc (take at d) text (drop (at + length text) d));
+      past = let p = w .past in omega (arith, p);
+    }
+
+-- a run after another, over the rest of the space
+pub and-then : {l k j : Log} {s space x after y part : List ℕ} {n m : ℕ}
+    → Runs l s space k x after n → Runs k x (drop n after) j y part m → Runs l s space j y (take n after ++ part) (n + m)
+and-then {k = k} {j = j} {after = after} {y = y} {part = part} {n = n} {m = m} r q =
+    record {
+      text = r .text ++ q .text;
+      wrote = then (omega arith) (r .wrote) (part-wrote after n m (q .text) part (q .wrote));
+      log = λ rest.
+          r .log rest
+          ∙ ap (λ (t : List ℕ). r .text ++ t) (q .log rest)
+          ∙ sym (append-assoc (r .text) (q .text) (logFrom j (y ++ rest)));
+    }
+
+-- the field at an index, as the code reads it
+pub tag-at : (s : List ℕ) (at : ℕ) → getD s at 0 ≡ tagOf (drop at s)
+tag-at s at = sym (rw (getD-drop, add-zero) refl)
+
+module _ (s : List ℕ) (at n : ℕ) (e : n ≡ lengthAt (drop at s)) where
+  pub content-at : take (at + 3 + n - (at + 3)) (drop (at + 3) s) ≡ contentOf (drop at s)
+  content-at =
+      let q : at + 3 + n - (at + 3) ≡ n = omega arith in
+      rw (q, drop-drop, e)
+
+  pub after-at : drop (at + 3 + n) s ≡ afterField (drop at s)
+  after-at =
+      let q : at + 3 + n ≡ at + (3 + lengthAt (drop at s)) = omega (arith, e) in
+      ap (λ (k : ℕ). drop k s) q ∙ sym (drop-drop (3 + lengthAt (drop at s)) at s)
+
+  pub ends-at : holdsField (drop at s) ≡ true → at + 3 + n ≤ length s
+  ends-at h =
+      let w = held-whole (drop at s) h in
+      let v = held-head (drop at s) h in
+      let d = length-drop at s in
+      omega arith
+
+  pub content-length : holdsField (drop at s) ≡ true → length (contentOf (drop at s)) ≡ n
+  content-length h =
+      let w = held-whole (drop at s) h in
+      length-take-le (lengthAt (drop at s)) (drop 3 (drop at s)) (omega (arith, length-drop 3 (drop at s))) ∙ sym e
+
+  -- whether it is a reception
+  pub reception-at : holdsField (drop at s) ≡ true → (eqb (getD s at 0) 0xA2 && leb 14 n) ≡ receptionFirst (drop at s)
+  reception-at h = sym (rw (h, content-length h, ← tag-at s at))
+
+-- what a reception at the start says
+module _ (x : List ℕ) (h : receptionFirst x ≡ true) where
+  tagged : (holdsField x && eqb (tagOf x) 0xA2) ≡ true
+  tagged = and-left (holdsField x && eqb (tagOf x) 0xA2) (leb 14 (length (contentOf x))) h
+
+  pub reception-held : holdsField x ≡ true
+  reception-held = and-left (holdsField x) (eqb (tagOf x) 0xA2) tagged
+
+  pub reception-clock : 14 ≤ length (contentOf x)
+  reception-clock = leb-true 14 (length (contentOf x)) (and-right (holdsField x && eqb (tagOf x) 0xA2) (leb 14 (length (contentOf x))) h)
+
+  reception-tag : tagOf x ≡ 0xA2
+  reception-tag = eqb-true (tagOf x) 0xA2 (and-right (holdsField x) (eqb (tagOf x) 0xA2) tagged)
+
+  -- its step calls the tender
+  pub reception-step : (codes : List ℕ) (t : rules.Tender)
+      → step (record { ended = false; codes = codes; tender = some t }) (tagOf x) (contentOf x) ≡ (record { ended = false; codes = codes; tender = some (received (contentOf x) t .0) }, received (contentOf x) t .1)
+  unfolding step reception
+  reception-step codes t = rw (reception-tag, le-ltb (length (contentOf x)) 14 reception-clock) refl
