@@ -11,7 +11,7 @@ use digits::has_number;
 use digits::number_of;
 use envelope::application::Field;
 use envelope::application::Fields;
-use envelope::application::bytes;
+use envelope::internal::bytes_in;
 use errors::Errors;
 use errors::internal::with;
 use errors::none;
@@ -45,7 +45,7 @@ fn other_type(m: &[u8]) -> bool
     requires { ⌜ readable layout6G1 (now m) ≡ true ⌝ }
     ensures { λ r. ⌜ r ≡ not (sameText (bytesOf MessageType (now (m .entry))) (ascii "6G1")) ⌝ }
 {
-    !same(bytes(m, Field::MessageType), b"6G1")
+    !same(bytes_in(m, Field::MessageType), b"6G1")
 }
 
 // Whether the recipient is another than 01000.
@@ -53,7 +53,7 @@ fn other_recipient(m: &[u8]) -> bool
     requires { ⌜ readable layout6G1 (now m) ≡ true ⌝ }
     ensures { λ r. ⌜ r ≡ not (sameText (bytesOf Recipient (now (m .entry))) (ascii "01000")) ⌝ }
 {
-    !same(bytes(m, Field::Recipient), b"01000")
+    !same(bytes_in(m, Field::Recipient), b"01000")
 }
 
 // Whether the identifier is another than the tender's.
@@ -61,7 +61,7 @@ fn other_identifier(m: &[u8], identifier: [u8; 11]) -> bool
     requires { ⌜ readable layout6G1 (now m) ≡ true ⌝ }
     ensures { λ r. ⌜ r ≡ not (sameText (bytesOf Identifier (now (m .entry))) identifier) ⌝ }
 {
-    !same(bytes(m, Field::Identifier), &identifier)
+    !same(bytes_in(m, Field::Identifier), &identifier)
 }
 
 // The error of a sender; whether its number is an admitted code is told.

@@ -1,4 +1,5 @@
 // A 6G1, the application: read from bytes and written from numbers and texts.
+use crate::internal::bytes_in;
 use crate::internal::number_in;
 use digits::Digits;
 use digits::all_digits;
@@ -20,7 +21,7 @@ ghost use Rattle.output.specs.Output.{Wrote};
 ghost use Rattle.digits.specs.Decimal.{digits};
 ghost use Rattle.layout.specs.Fields.{field, readable};
 ghost use Rattle.places.specs.Bids.{placesText};
-ghost use Rattle.envelope.specs.Application.{layout6G1, position, fieldBytes, fieldsOf, readRefusal, reading, isIdentifier, numbersFit, textsFit, writeRefusal, write};
+ghost use Rattle.envelope.specs.Application.{layout6G1, fieldBytes, fieldsOf, readRefusal, reading, isIdentifier, numbersFit, textsFit, writeRefusal, write};
 ghost use Rattle.envelope.specs.Writing.{firstFields, lastFields};
 
 // The fields of a 6G1, in their order.
@@ -86,33 +87,11 @@ pub fn is_6g1(m: &[u8]) -> bool
     )
 }
 
-// The place of a field in the layout.
-fn position_of(f: Field) -> usize
-    ensures { λ r. ⌜ r ≡ position f ⌝ }
-{
-    match f {
-        Field::MessageType => 0,
-        Field::Sender => 1,
-        Field::Recipient => 2,
-        Field::Cro => 3,
-        Field::Date => 4,
-        Field::Time => 5,
-        Field::Check => 6,
-        Field::Identifier => 7,
-        Field::Bids => 8,
-        Field::Name => 9,
-    }
-}
-
 // The bytes of a field, or none where m is no 6G1.
 pub fn bytes(m: &[u8], f: Field) -> &[u8]
     ensures { λ r. ⌜ now r ≡ fieldBytes f (now (m .entry)) ⌝ }
 {
-    if is_6g1(m) {
-        contents(m, position_of(f))
-    } else {
-        &m[0..0]
-    }
+    if is_6g1(m) { bytes_in(m, f) } else { &m[0..0] }
 }
 
 // The numbers of a readable 6G1.

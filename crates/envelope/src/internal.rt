@@ -1,4 +1,5 @@
 // What asks for a message that was found readable.
+use crate::application::Field;
 use digits::Digits;
 use digits::internal::number;
 use layout::internal::contents;
@@ -7,7 +8,8 @@ ghost use mathlib.Core.Bool.{true};
 ghost use Prim.Native.Nat.{_≤_};
 ghost use lib.ListN.{length};
 ghost use Rattle.digits.specs.Decimal.{digitsOf};
-ghost use Rattle.layout.specs.Fields.{content, whole};
+ghost use Rattle.layout.specs.Fields.{readable, content, whole};
+ghost use Rattle.envelope.specs.Application.{layout6G1, position, bytesOf};
 
 // The number in field k, counted from 0.
 pub fn number_in(m: &[u8], k: usize) -> Digits
@@ -16,4 +18,30 @@ pub fn number_in(m: &[u8], k: usize) -> Digits
     ensures { λ r. ⌜ r ≡ digitsOf (content k (now (m .entry))) ⌝ }
 {
     number(contents(m, k))
+}
+
+// The place of a field in the layout of a 6G1.
+fn position_of(f: Field) -> usize
+    ensures { λ r. ⌜ r ≡ position f ⌝ }
+{
+    match f {
+        Field::MessageType => 0,
+        Field::Sender => 1,
+        Field::Recipient => 2,
+        Field::Cro => 3,
+        Field::Date => 4,
+        Field::Time => 5,
+        Field::Check => 6,
+        Field::Identifier => 7,
+        Field::Bids => 8,
+        Field::Name => 9,
+    }
+}
+
+// The bytes of a field of a readable 6G1.
+pub fn bytes_in(m: &[u8], f: Field) -> &[u8]
+    requires { ⌜ readable layout6G1 (now m) ≡ true ⌝ }
+    ensures { λ r. ⌜ now r ≡ bytesOf f (now (m .entry)) ⌝ }
+{
+    contents(m, position_of(f))
 }

@@ -1,20 +1,15 @@
 -- `envelope::application::bytes` meets its contract. Assumes nothing.
 use borrow.Author.Needs.{needs}
 use mathlib.Core.Path.{sym, _∙_}
-use denote.Ref.{now}
 use Rattle.envelope.specs.Application.{fieldBytes}
-use Rattle.envelope.proofs.Fields6G1.{whole-field}
 use Rattle.envelope.proofs.application.bytes.Statement.{statement}
 use Rattle.envelope.proofs.application.bytes.Tie as tie
 
 is-6g1-requires : tie.Need-is-6g1-requires
 is-6g1-requires c κs = search needs
 
-position-of-requires : tie.Need-position-of-requires
-position-of-requires c κs = search needs
-
-contents-requires : tie.Need-contents-requires
-contents-requires c κs = rw (c .position-of .ensures) (whole-field (now (c .before .before .before .before .args .m)) (sym (c .before .before .is-6g1 .ensures) ∙ c .before .if1 .taken) (c .before .before .before .before .args .f))
+bytes-in-requires : tie.Need-bytes-in-requires
+bytes-in-requires c κs = sym (c .before .is-6g1 .ensures) ∙ c .if1 .taken
 
 sub-result : tie.Need-sub-result
 sub-result c = search needs
@@ -27,7 +22,7 @@ part-result-end c = search needs
 
 returns : tie.Need-returns
 unfolding fieldBytes
-returns c = rw (sym (c .before .before .before .is-6g1 .ensures) ∙ c .before .before .if1 .taken, ← c .before .position-of .ensures) (c .contents .ensures)
+returns c = rw (sym (c .before .before .is-6g1 .ensures) ∙ c .before .if1 .taken) (c .bytes-in .ensures)
 
 returns-2 : tie.Need-returns-2
 unfolding fieldBytes
@@ -38,8 +33,7 @@ bytes-spec =
     tie.close
     (tie.spec
     is-6g1-requires
-    position-of-requires
-    contents-requires
+    bytes-in-requires
     sub-result
     part-result-start
     part-result-end

@@ -1,0 +1,21 @@
+-- `envelope::internal::bytes_in` meets its contract. Assumes nothing.
+use borrow.Author.Needs.{needs}
+use mathlib.Core.Path.{ap, _∙_}
+use Prim.Native.Nat.{ℕ}
+use denote.Ref.{now}
+use Rattle.layout.specs.Fields.{content}
+use Rattle.envelope.proofs.Fields6G1.{whole-field}
+use Rattle.envelope.proofs.internal.bytes_in.Statement.{statement}
+use Rattle.envelope.proofs.internal.bytes_in.Tie as tie
+
+position-of-requires : tie.Need-position-of-requires
+position-of-requires c κs = search needs
+
+contents-requires : tie.Need-contents-requires
+contents-requires c κs = rw (c .position-of .ensures) (whole-field (now (c .before .before .args .m)) (c .before .before .pre) (c .before .before .args .f))
+
+returns : tie.Need-returns
+returns c = c .contents .ensures ∙ ap (λ (k : ℕ). content k (now (c .before .before .before .args .m))) (c .before .position-of .ensures)
+
+pub bytes-in-spec : {M : Type 1} → statement M
+bytes-in-spec = tie.close (tie.spec position-of-requires contents-requires returns)
