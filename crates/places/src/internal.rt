@@ -3,45 +3,51 @@ use crate::Amount;
 use crate::Place;
 use crate::Places;
 use crate::Rate;
-use digits::all_digits;
 use digits::internal::put_digits;
-use words::internal::eight;
-use words::internal::seven;
+use words::internal::after_slash;
+use words::internal::all_small;
+use words::internal::lowered;
+use words::internal::value;
 ghost use mathlib.Core.Path.{_≡_};
-ghost use mathlib.Core.Bool.{true};
-ghost use Prim.Native.Nat.{_+_, _≤_};
+ghost use mathlib.Core.Bool.{true, _&&_};
+ghost use Prim.Native.Nat.{_+_, _*_, _%_, _≤_};
+ghost use lib.Dec.{eqb};
 ghost use lib.ListN.{length};
 ghost use Rattle.output.specs.Output.{Wrote};
-ghost use Rattle.places.specs.Bids.{isPlace, placeOf, placesOf, placeText, placesText};
+ghost use Rattle.words.specs.Words.{bytesOf, allSmall, decimal};
+ghost use Rattle.places.specs.Bids.{wellFormed, placeOf, placesOf, placeText, placesText};
 
-// Whether 24 characters are a well-formed place.
-fn is_place(s: &[u8]) -> bool
-    requires { ⌜ length (now s) ≡ 24 ⌝ }
-    ensures { λ r. ⌜ r ≡ isPlace (now (s .entry)) ⌝ }
+// Whether the words of rate, slash and seven digits, and eight digits are those of a place.
+fn is_formed(rate: u64, high: u64, low: u64) -> bool
+    ensures { λ r. ⌜ r ≡ (eqb (high % 256) 0 && allSmall (bytesOf 8 rate) && allSmall (bytesOf 8 high) && allSmall (bytesOf 8 low)) ⌝ }
 {
-    (s[8] == b'/') & all_digits(&s[0..8]) & all_digits(&s[9..24])
+    (high % 256 == 0) & all_small(rate) & all_small(high) & all_small(low)
 }
 
-// The numbers of a well-formed place: eight digits, slash and seven digits, eight digits.
-fn well_formed(s: &[u8]) -> Place
-    requires { ⌜ length (now s) ≡ 24 ⌝ }
-    requires { ⌜ isPlace (now s) ≡ true ⌝ }
-    ensures { λ r. ⌜ r ≡ placeOf (now (s .entry)) ⌝ }
+// The place that they make.
+fn formed_place(rate: u64, high: u64, low: u64) -> Place
+    requires { ⌜ allSmall (bytesOf 8 rate) ≡ true ⌝ }
+    requires { ⌜ allSmall (bytesOf 8 high) ≡ true ⌝ }
+    requires { ⌜ allSmall (bytesOf 8 low) ≡ true ⌝ }
+    ensures { λ r. ⌜ r ≡ wellFormed (decimal 0 (bytesOf 8 rate)) (decimal 0 (bytesOf 8 high) * 100000000 + decimal 0 (bytesOf 8 low)) ⌝ }
 {
     Place {
         formed: true,
-        rate: Rate(eight(&s[0..8]) as u32),
-        amount: Amount(seven(&s[8..16]) * 100000000 + eight(&s[16..24])),
+        rate: Rate(value(rate) as u32),
+        amount: Amount(value(high) * 100000000 + value(low)),
     }
 }
 
-// The place in 24 characters.
+// The place in 24 characters. Each byte is loaded once, to be tested and to give its digit.
 pub fn read_place(s: &[u8]) -> Place
     requires { ⌜ length (now s) ≡ 24 ⌝ }
     ensures { λ r. ⌜ r ≡ placeOf (now (s .entry)) ⌝ }
 {
-    if is_place(s) {
-        well_formed(s)
+    let rate = lowered(&s[0..8]);
+    let high = after_slash(&s[8..16]);
+    let low = lowered(&s[16..24]);
+    if is_formed(rate, high, low) {
+        formed_place(rate, high, low)
     } else {
         Place {
             formed: false,

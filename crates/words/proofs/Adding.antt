@@ -2,7 +2,7 @@
 use mathlib.Core.Path.{_≡_, refl, ap, _∙_}
 use mathlib.Core.Bool.{true}
 use mathlib.Core.List.{[], _∷_}
-use Prim.Native.Nat.{ℕ, suc, _+_, _*_, _-_, _/_, _%_, _≤_, _<_}
+use Prim.Native.Nat.{ℕ, suc, _+_, _*_, _/_, _%_, _≤_, _<_}
 use native.Mathlib.Omega.{arith}
 use lib.Dec.{leb, lit<}
 use lib.Bits.{bitAnd, and-block, and-mask}
@@ -187,3 +187,17 @@ eight-max t w =
     let a7 = w .h7 in
     let s = w .is in
     omega arith
+
+pub eight-below : (t : ℕ) → t < 18446744073709551616 → allSmall (bytesOf 8 t) ≡ true → decimal 0 (bytesOf 8 t) < 100000000
+unfolding decimal
+eight-below t b h =
+    let w = eight-of t b h in
+    let a0 = w .h0 in
+    let a1 = w .h1 in
+    let a2 = w .h2 in
+    let a3 = w .h3 in
+    let a4 = w .h4 in
+    let a5 = w .h5 in
+    let a6 = w .h6 in
+    let a7 = w .h7 in
+    rw (w .bytes) (omega arith)

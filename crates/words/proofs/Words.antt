@@ -1,96 +1,204 @@
--- Laws of digits in words. Assumes nothing.
-use mathlib.Core.Path.{_≡_, refl, sym, ap, _∙_}
-use mathlib.Core.Bool.{true}
-use mathlib.Core.List.{List, [], _∷_, map}
-use Prim.Native.Nat.{ℕ, _+_, _*_, _-_, _/_, _%_, _≤_}
+-- Bytes in a word: eight of them from two halves, and eight tested at once. Assumes nothing.
+use mathlib.Core.Path.{_≡_, refl, sym, ap, ap₂, _∙_}
+use mathlib.Core.Bool.{Bool, true, false, cond, not, _&&_}
+use mathlib.Core.List.{List, [], _∷_, _++_, map}
+use Prim.Native.Nat.{ℕ, zero, suc, _+_, _*_, _-_, _/_, _%_, _<_}
+use native.Mathlib.Nat.{not-suc-le-zero}
 use native.Mathlib.Omega.{arith}
-use lib.Dec.{leb}
-use lib.ListN.{length, take, drop, getD, replicate, length-map}
+use lib.Dec.{leb, ltb, eqb, lit<}
+use lib.Bits.{bitAnd, bitOr, bitXor, and-block, or-block, and-le-r, or-lt, and-zero-r, xor-mod, xor-shr}
+use lib.ListN.{length, take, drop, getD}
 use lib.Seq.{take-all}
-use borrow.Author.Tests.{le-leb, leb-true}
-use Rattle.laws.proofs.Tests.{and-left, and-right}
-use Rattle.digits.specs.Decimal.{allDigits, numberFrom}
-use Rattle.digits.proofs.Reading.{digit-range, first-digit, rest-digits}
-use Rattle.words.specs.Words.{wordOf, bytesOf, allSmall, decimal}
-
--- digits as numbers 0 to 9
-abbrev down : ℕ → ℕ
-down b = b - 48
-
-pub small : (s : List ℕ) → allDigits s ≡ true → allSmall (map down s) ≡ true
-unfolding allSmall
-small [] h = refl
-small (b ∷ s) h =
-    let r = digit-range b (first-digit b s h) in
-    rw (le-leb (b - 48) 9 (omega arith)) (small s (rest-digits b s h))
-
-pub same-number : (n : ℕ) (s : List ℕ) → decimal n (map down s) ≡ numberFrom n s
-unfolding decimal numberFrom
-same-number n [] = refl
-same-number n (b ∷ s) = same-number (n * 10 + (b - 48)) s
-
--- a word of digits is one of numbers 0 to 9 and one of zeros
-pub word-down : (s : List ℕ) → allDigits s ≡ true → wordOf s ≡ wordOf (map down s) + wordOf (replicate (length s) 48)
-unfolding wordOf
-word-down [] h = refl
-word-down (b ∷ s) h =
-    let r = digit-range b (first-digit b s h) in
-    let i = word-down s (rest-digits b s h) in
-    omega arith
-
--- bytes below 256 come back out of their word
-pub bytes-back : (s : List ℕ) → allSmall s ≡ true → bytesOf (length s) (wordOf s) ≡ s
-unfolding wordOf bytesOf allSmall
-bytes-back [] h = refl
-bytes-back (d ∷ s) h =
-    let r = leb-true d 9 (and-left (leb d 9) (allSmall s) h) in
-    let x : (d + wordOf s * 256) % 256 ≡ d = omega arith in
-    let y : (d + wordOf s * 256) / 256 ≡ wordOf s = omega arith in
-    rw (x, y) (ap (λ (l : List ℕ). d ∷ l) (bytes-back s (and-right (leb d 9) (allSmall s) h)))
-
--- eight digits: the word less the word of zeros has the numbers as its bytes
-pub eight-bytes : (s : List ℕ) → length s ≡ 8 → allDigits s ≡ true → bytesOf 8 (wordOf s - 3472328296227680304) ≡ map down s
-unfolding wordOf
-eight-bytes s l h =
-    let z : wordOf s ≡ wordOf (map down s) + wordOf (replicate 8 48) = word-down s h ∙ ap (λ (k : ℕ). wordOf (map down s) + wordOf (replicate k 48)) l in
-    let e : wordOf s - 3472328296227680304 ≡ wordOf (map down s) = omega arith in
-    ap (bytesOf 8) e ∙ ap (λ (k : ℕ). bytesOf k (wordOf (map down s))) (sym (length-map s down ∙ l)) ∙ bytes-back (map down s) (small s h)
+use borrow.Author.Tests.{eq-eqb, eqb-true, ltb-true, ltb-false}
+use Rattle.laws.proofs.Tests.{and-left, and-right, same-test}
+use Rattle.digits.specs.Decimal.{isDigit, allDigits, numberFrom}
+use Rattle.digits.proofs.Reading.{first-digit, rest-digits}
+use Rattle.words.specs.Words.{bytesOf, allSmall, decimal, Lowered, AfterSlash}
 
 -- four bytes, and eight in two halves
-pub four-word : (s : List ℕ) → length s ≡ 4 → getD s 0 0 + getD s 1 0 * 256 + (getD s 2 0 + getD s 3 0 * 256) * 65536 ≡ wordOf s
-unfolding wordOf
-four-word [] h = absurd (let z : ⊥ = omega arith in z)
-four-word (a ∷ []) h = absurd (let z : ⊥ = omega arith in z)
-four-word (a ∷ b ∷ []) h = absurd (let z : ⊥ = omega arith in z)
-four-word (a ∷ b ∷ c ∷ []) h = absurd (let z : ⊥ = omega arith in z)
-four-word (a ∷ b ∷ c ∷ d ∷ []) h = omega arith
-four-word (a ∷ b ∷ c ∷ d ∷ e ∷ s) h = absurd (let z : ⊥ = omega arith in z)
+pub four-bytes : (a b c d : ℕ) → a < 256 → b < 256 → c < 256 → d < 256 → bytesOf 4 (a + b * 256 + (c + d * 256) * 65536) ≡ a ∷ b ∷ c ∷ d ∷ []
+unfolding bytesOf
+four-bytes a b c d ha hb hc hd =
+    let x = a + b * 256 + (c + d * 256) * 65536 in
+    let p0 : x % 256 ≡ a = omega arith in
+    let q0 : x / 256 ≡ b + (c + d * 256) * 256 = omega arith in
+    let p1 : (b + (c + d * 256) * 256) % 256 ≡ b = omega arith in
+    let q1 : (b + (c + d * 256) * 256) / 256 ≡ c + d * 256 = omega arith in
+    let p2 : (c + d * 256) % 256 ≡ c = omega arith in
+    let q2 : (c + d * 256) / 256 ≡ d = omega arith in
+    let p3 : d % 256 ≡ d = omega arith in
+    rw (p0, q0, p1, q1, p2, q2, p3)
 
-pub word-halves : (s : List ℕ) → length s ≡ 8 → wordOf (take 4 s) + wordOf (take 4 (drop 4 s)) * 4294967296 ≡ wordOf s
-unfolding wordOf
-word-halves [] h = absurd (let z : ⊥ = omega arith in z)
-word-halves (a ∷ []) h = absurd (let z : ⊥ = omega arith in z)
-word-halves (a ∷ b ∷ []) h = absurd (let z : ⊥ = omega arith in z)
-word-halves (a ∷ b ∷ c ∷ []) h = absurd (let z : ⊥ = omega arith in z)
-word-halves (a ∷ b ∷ c ∷ d ∷ s) h = rw (take-all 4 s (omega arith)) (omega arith)
+pub four-are : (s : List ℕ) → length s ≡ 4 → getD s 0 0 ∷ getD s 1 0 ∷ getD s 2 0 ∷ getD s 3 0 ∷ [] ≡ s
+four-are [] h = absurd (let z : ⊥ = omega arith in z)
+four-are (a ∷ []) h = absurd (let z : ⊥ = omega arith in z)
+four-are (a ∷ b ∷ []) h = absurd (let z : ⊥ = omega arith in z)
+four-are (a ∷ b ∷ c ∷ []) h = absurd (let z : ⊥ = omega arith in z)
+four-are (a ∷ b ∷ c ∷ d ∷ []) h = refl
+four-are (a ∷ b ∷ c ∷ d ∷ e ∷ s) h = absurd (let z : ⊥ = omega arith in z)
 
--- eight digits are at least eight zeros
-pub eight-least : (s : List ℕ) → length s ≡ 8 → allDigits s ≡ true → 3472328296227680304 ≤ wordOf s
-unfolding wordOf
-eight-least s l h =
-    let z : wordOf s ≡ wordOf (map down s) + wordOf (replicate 8 48) = word-down s h ∙ ap (λ (k : ℕ). wordOf (map down s) + wordOf (replicate k 48)) l in
-    omega arith
+pub halves : (a b : ℕ) → a < 4294967296 → bytesOf 8 (a + b * 4294967296) ≡ bytesOf 4 a ++ bytesOf 4 b
+unfolding bytesOf
+halves a b h =
+    let p0 : (a + b * 4294967296) % 256 ≡ a % 256 = omega arith in
+    let q0 : (a + b * 4294967296) / 256 ≡ a / 256 + b * 16777216 = omega arith in
+    let p1 : (a / 256 + b * 16777216) % 256 ≡ a / 256 % 256 = omega arith in
+    let q1 : (a / 256 + b * 16777216) / 256 ≡ a / 256 / 256 + b * 65536 = omega arith in
+    let p2 : (a / 256 / 256 + b * 65536) % 256 ≡ a / 256 / 256 % 256 = omega arith in
+    let q2 : (a / 256 / 256 + b * 65536) / 256 ≡ a / 256 / 256 / 256 + b * 256 = omega arith in
+    let p3 : (a / 256 / 256 / 256 + b * 256) % 256 ≡ a / 256 / 256 / 256 % 256 = omega arith in
+    let q3 : (a / 256 / 256 / 256 + b * 256) / 256 ≡ b = omega arith in
+    rw (p0, q0, p1, q1, p2, q2, p3, q3)
 
--- a slash and seven digits are a zero and seven digits, less one
-pub slash-zero : (s : List ℕ) → length s ≡ 8 → getD s 0 0 ≡ 47 → wordOf (48 ∷ drop 1 s) ≡ wordOf s + 1
-unfolding wordOf
-slash-zero [] h e = absurd (let z : ⊥ = omega arith in z)
-slash-zero (a ∷ s) h e = omega arith
+pub halves-are : (s : List ℕ) → length s ≡ 8 → take 4 s ++ take 4 (drop 4 s) ≡ s
+halves-are [] h = absurd (let z : ⊥ = omega arith in z)
+halves-are (a ∷ []) h = absurd (let z : ⊥ = omega arith in z)
+halves-are (a ∷ b ∷ []) h = absurd (let z : ⊥ = omega arith in z)
+halves-are (a ∷ b ∷ c ∷ []) h = absurd (let z : ⊥ = omega arith in z)
+halves-are (a ∷ b ∷ c ∷ d ∷ s) h = ap (λ (l : List ℕ). a ∷ b ∷ c ∷ d ∷ l) (take-all 4 s (omega arith))
 
-pub zero-first : (s : List ℕ) → allDigits s ≡ true → allDigits (48 ∷ s) ≡ true
-unfolding allDigits
-zero-first s h = h
+-- a test that holds of every number below n holds of each
+unfoldable holdsBelow : (ℕ → Bool) → ℕ → Bool
+holdsBelow f zero = true
+holdsBelow f (suc n) = f n && holdsBelow f n
 
-pub zero-number : (s : List ℕ) → numberFrom 0 (48 ∷ s) ≡ numberFrom 0 s
-unfolding numberFrom
-zero-number s = refl
+or-last : (f : ℕ → Bool) (n b : ℕ) → b < suc n → (b < n → f b ≡ true) → f n ≡ true → f b ≡ true
+or-last f n b l below last = go (ltb b n) refl
+  where
+    go : (t : Bool) → ltb b n ≡ t → f b ≡ true
+    go true e = below (ltb-true b n e)
+    go false e = let g = ltb-false b n e in let q : b ≡ n = omega arith in rw q last
+
+holds-at : (f : ℕ → Bool) (n b : ℕ) → holdsBelow f n ≡ true → b < n → f b ≡ true
+unfolding holdsBelow
+holds-at f zero b h l = absurd (not-suc-le-zero l)
+holds-at f (suc n) b h l = or-last f n b l (holds-at f n b (and-right (f n) (holdsBelow f n) h)) (and-left (f n) (holdsBelow f n) h)
+
+abbrev same : Bool → Bool → Bool
+same a b = cond a b (not b)
+
+same-is : (a b : Bool) → same a b ≡ true → a ≡ b
+same-is true true h = refl
+same-is true false h = sym h
+same-is false true h = h
+same-is false false h = refl
+
+-- the tests of one byte
+abbrev over : ℕ → ℕ
+over b = bitAnd (bitOr b (bitAnd b 15 + 6)) 240
+
+byte-small : (b : ℕ) → b < 256 → eqb (over b) 0 ≡ leb b 9
+unfolding holdsBelow
+byte-small b l = same-is (eqb (over b) 0) (leb b 9) (holds-at (λ (x : ℕ). same (eqb (over x) 0) (leb x 9)) 256 b refl l)
+
+byte-digit : (b : ℕ) → b < 256 → leb (bitXor b 48) 9 ≡ isDigit b
+unfolding holdsBelow
+byte-digit b l = same-is (leb (bitXor b 48) 9) (isDigit b) (holds-at (λ (x : ℕ). same (leb (bitXor x 48) 9) (isDigit x)) 256 b refl l)
+
+byte-slash : (b : ℕ) → b < 256 → eqb (bitXor b 47) 0 ≡ eqb b 47
+unfolding holdsBelow
+byte-slash b l = same-is (eqb (bitXor b 47) 0) (eqb b 47) (holds-at (λ (x : ℕ). same (eqb (bitXor x 47) 0) (eqb x 47)) 256 b refl l)
+
+byte-number : (b : ℕ) → b < 256 → isDigit b ≡ true → bitXor b 48 ≡ b - 48
+unfolding holdsBelow
+byte-number b l h = eqb-true (bitXor b 48) (b - 48) (rw h at (holds-at (λ (x : ℕ). cond (isDigit x) (eqb (bitXor x 48) (x - 48)) true) 256 b refl l))
+
+-- the word of k bytes c
+unfoldable pub each : ℕ → ℕ → ℕ
+each zero c = 0
+each (suc k) c = each k c * 256 + c
+
+zero-both : (x y : ℕ) → eqb (x * 256 + y) 0 ≡ (eqb y 0 && eqb x 0)
+zero-both x y =
+    same-test (eqb (x * 256 + y) 0) (eqb y 0 && eqb x 0)
+    (λ e. let q = eqb-true (x * 256 + y) 0 e in rw (eq-eqb y 0 (omega arith), eq-eqb x 0 (omega arith)))
+    (λ e. let p = eqb-true y 0 (and-left (eqb y 0) (eqb x 0) e) in let q = eqb-true x 0 (and-right (eqb y 0) (eqb x 0) e) in eq-eqb (x * 256 + y) 0 (omega arith))
+
+-- bytes tested at once
+pub tested : (k t : ℕ) → eqb (bitAnd (bitOr t (bitAnd t (each k 15) + each k 6)) (each k 240)) 0 ≡ allSmall (bytesOf k t)
+unfolding each allSmall bytesOf
+tested zero t = rw (and-zero-r (bitOr t (bitAnd t 0 + 0)))
+tested (suc k) t =
+    let q = t / 256 in
+    let b = t % 256 in
+    let l : b < 256 = omega arith in
+    let e : t ≡ q * 256 + b = omega arith in
+    let m : bitAnd t (each k 15 * 256 + 15) ≡ bitAnd q (each k 15) * 256 + bitAnd b 15 = ap (λ (x : ℕ). bitAnd x (each k 15 * 256 + 15)) e ∙ and-block 8 q (each k 15) b 15 l (lit< tt) in
+    let low = and-le-r b 15 in
+    let rest = bitAnd q (each k 15) + each k 6 in
+    let a : bitAnd t (each k 15 * 256 + 15) + (each k 6 * 256 + 6) ≡ rest * 256 + (bitAnd b 15 + 6) = omega arith in
+    let o : bitOr t (bitAnd t (each k 15 * 256 + 15) + (each k 6 * 256 + 6)) ≡ bitOr q rest * 256 + bitOr b (bitAnd b 15 + 6) = ap₂ bitOr e a ∙ or-block 8 q rest b (bitAnd b 15 + 6) l (omega arith) in
+    let n = or-lt 8 b (bitAnd b 15 + 6) l (omega arith) in
+    ap (λ (x : ℕ). eqb (bitAnd x (each k 240 * 256 + 240)) 0) o
+    ∙ ap (λ (x : ℕ). eqb x 0) (and-block 8 (bitOr q rest) (each k 240) (bitOr b (bitAnd b 15 + 6)) 240 n (lit< tt))
+    ∙ zero-both (bitAnd (bitOr q rest) (each k 240)) (over b)
+    ∙ ap₂ _&&_ (byte-small b l) (tested k q)
+
+-- '0' taken off each byte
+abbrev low : ℕ → ℕ
+low b = bitXor b 48
+
+xor-bytes : (k w y c : ℕ) → c < 256 → bytesOf (suc k) (bitXor w (y * 256 + c)) ≡ bitXor (w % 256) c ∷ bytesOf k (bitXor (w / 256) y)
+unfolding bytesOf
+xor-bytes k w y c h =
+    let p : (y * 256 + c) % 256 ≡ c = omega arith in
+    let q : (y * 256 + c) / 256 ≡ y = omega arith in
+    ap₂ (λ (a : ℕ) (b : ℕ). a ∷ bytesOf k b) (xor-mod w (y * 256 + c) 8 ∙ ap (bitXor (w % 256)) p) (xor-shr w (y * 256 + c) 8 ∙ ap (bitXor (w / 256)) q)
+
+low-bytes : (k w : ℕ) → bytesOf k (bitXor w (each k 48)) ≡ map low (bytesOf k w)
+unfolding each bytesOf
+low-bytes zero w = refl
+low-bytes (suc k) w = xor-bytes k w (each k 48) 48 (lit< tt) ∙ ap (λ (l : List ℕ). low (w % 256) ∷ l) (low-bytes k (w / 256))
+
+low-small : (k w : ℕ) → allSmall (map low (bytesOf k w)) ≡ allDigits (bytesOf k w)
+unfolding allSmall allDigits bytesOf
+low-small zero w = refl
+low-small (suc k) w = ap₂ _&&_ (byte-digit (w % 256) (omega arith)) (low-small k (w / 256))
+
+low-number : (k w n : ℕ) → allDigits (bytesOf k w) ≡ true → decimal n (map low (bytesOf k w)) ≡ numberFrom n (bytesOf k w)
+unfolding decimal numberFrom bytesOf
+low-number zero w n h = refl
+low-number (suc k) w n h =
+    let b = w % 256 in
+    let e = byte-number b (omega arith) (first-digit b (bytesOf k (w / 256)) h) in
+    ap (λ (d : ℕ). decimal (n * 10 + d) (map low (bytesOf k (w / 256)))) e ∙ low-number k (w / 256) (n * 10 + (b - 48)) (rest-digits b (bytesOf k (w / 256)) h)
+
+pub lowered-is : (s : List ℕ) (w : ℕ) → bytesOf 8 w ≡ s → Lowered s (bitXor w 3472328296227680304)
+unfolding each
+lowered-is s w e =
+    record {
+      small = ap allSmall (low-bytes 8 w) ∙ low-small 8 w ∙ ap allDigits e;
+      number = λ h. ap (decimal 0) (low-bytes 8 w) ∙ low-number 8 w 0 (ap allDigits e ∙ h) ∙ ap (numberFrom 0) e;
+    }
+
+-- a slash taken off the first
+first-slash : (w : ℕ) → (eqb (bitXor (w % 256) 47) 0 && (leb (bitXor (w % 256) 47) 9 && allSmall (map low (bytesOf 7 (w / 256))))) ≡ (eqb (w % 256) 47 && allDigits (bytesOf 7 (w / 256)))
+first-slash w = go (eqb (bitXor (w % 256) 47) 0) refl
+  where
+    go : (t : Bool) → eqb (bitXor (w % 256) 47) 0 ≡ t → (eqb (bitXor (w % 256) 47) 0 && (leb (bitXor (w % 256) 47) 9 && allSmall (map low (bytesOf 7 (w / 256))))) ≡ (eqb (w % 256) 47 && allDigits (bytesOf 7 (w / 256)))
+    go true e = rw (e, eqb-true (bitXor (w % 256) 47) 0 e, sym (byte-slash (w % 256) (omega arith)) ∙ e) (low-small 7 (w / 256))
+    go false e = rw (e, sym (byte-slash (w % 256) (omega arith)) ∙ e)
+
+slash-bytes : (w : ℕ) → bytesOf 8 (bitXor w 3472328296227680303) ≡ bitXor (w % 256) 47 ∷ map low (bytesOf 7 (w / 256))
+unfolding each
+slash-bytes w = xor-bytes 7 w (each 7 48) 47 (lit< tt) ∙ ap (λ (l : List ℕ). bitXor (w % 256) 47 ∷ l) (low-bytes 7 (w / 256))
+
+slash-first : (w : ℕ) → bitXor w 3472328296227680303 % 256 ≡ bitXor (w % 256) 47
+slash-first w = xor-mod w 3472328296227680303 8
+
+pub after-slash-is : (s : List ℕ) (w : ℕ) → bytesOf 8 w ≡ s → AfterSlash s (bitXor w 3472328296227680303)
+unfolding bytesOf allSmall decimal
+after-slash-is s w e =
+    let h : w % 256 ≡ getD s 0 0 = ap (λ (l : List ℕ). getD l 0 0) e in
+    let r : bytesOf 7 (w / 256) ≡ drop 1 s = ap (drop 1) e in
+    record {
+      small =
+          ap₂ (λ (x : ℕ) (l : List ℕ). eqb x 0 && allSmall l) (slash-first w) (slash-bytes w)
+          ∙ first-slash w
+          ∙ ap₂ (λ (x : ℕ) (l : List ℕ). eqb x 47 && allDigits l) h r;
+      number = λ f d.
+          ap (decimal 0) (slash-bytes w)
+          ∙ ap (λ (x : ℕ). decimal (0 * 10 + x) (map low (bytesOf 7 (w / 256)))) (eqb-true (bitXor (w % 256) 47) 0 (byte-slash (w % 256) (omega arith) ∙ eq-eqb (w % 256) 47 (h ∙ f)))
+          ∙ low-number 7 (w / 256) 0 (ap allDigits r ∙ d)
+          ∙ ap (numberFrom 0) r;
+    }

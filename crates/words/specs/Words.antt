@@ -1,13 +1,11 @@
 -- Digits in the bytes of a word. Assumes nothing.
+use mathlib.Core.Path.{_≡_}
 use mathlib.Core.Bool.{Bool, true, _&&_}
 use mathlib.Core.List.{List, [], _∷_}
 use Prim.Native.Nat.{ℕ, zero, suc, _+_, _*_, _/_, _%_}
-use lib.Dec.{leb}
-
--- the word that bytes make, the first lowest
-unfoldable pub wordOf : List ℕ → ℕ
-wordOf [] = 0
-wordOf (b ∷ s) = b + wordOf s * 256
+use lib.Dec.{leb, eqb}
+use lib.ListN.{drop, getD}
+use Rattle.digits.specs.Decimal.{allDigits, numberOf}
 
 -- the k low bytes of a word, the lowest first
 unfoldable pub bytesOf : ℕ → ℕ → List ℕ
@@ -23,3 +21,13 @@ allSmall (d ∷ s) = leb d 9 && allSmall s
 unfoldable pub decimal : ℕ → List ℕ → ℕ
 decimal n [] = n
 decimal n (d ∷ s) = decimal (n * 10 + d) s
+
+-- the bytes of a word are 0 to 9 just where eight bytes are digits, and make their number then
+pub record Lowered (s : List ℕ) (t : ℕ) : Type 0 where
+  pub small : allSmall (bytesOf 8 t) ≡ allDigits s
+  pub number : allDigits s ≡ true → decimal 0 (bytesOf 8 t) ≡ numberOf s
+
+-- they are 0 and then 0 to 9 just where eight bytes are a slash and digits, and make the digits' number then
+pub record AfterSlash (s : List ℕ) (t : ℕ) : Type 0 where
+  pub small : (eqb (t % 256) 0 && allSmall (bytesOf 8 t)) ≡ (eqb (getD s 0 0) 47 && allDigits (drop 1 s))
+  pub number : getD s 0 0 ≡ 47 → allDigits (drop 1 s) ≡ true → decimal 0 (bytesOf 8 t) ≡ numberOf (drop 1 s)

@@ -1,2 +1,2 @@
-// Eight digits at a time: the bytes of a word, added by pairs, fours and eights at once.
+// Eight digits at a time: the bytes of a word, tested at once and added by pairs, fours and eights.
 pub mod internal;

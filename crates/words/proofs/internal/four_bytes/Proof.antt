@@ -1,10 +1,12 @@
--- `words::internal::four` meets its contract. Assumes nothing.
+-- `words::internal::four_bytes` meets its contract. Assumes nothing.
 use borrow.Author.Needs.{needs}
+use mathlib.Core.Path.{_∙_}
 use native.Mathlib.Omega.{arith}
 use denote.Ref.{now}
-use Rattle.words.proofs.Words.{four-word}
-use Rattle.words.proofs.internal.four.Statement.{statement}
-use Rattle.words.proofs.internal.four.Tie as tie
+use lib.ListN.{getD}
+use Rattle.words.proofs.Words.{four-bytes, four-are}
+use Rattle.words.proofs.internal.four_bytes.Statement.{statement}
+use Rattle.words.proofs.internal.four_bytes.Tie as tie
 
 shared-slice-read-wide : tie.Need-shared-slice-read-wide
 shared-slice-read-wide c = search needs
@@ -51,11 +53,16 @@ add-result-3 c = search needs
 returns : tie.Need-returns
 returns c =
     let s = now (c .before .before .before .before .before .before .before .before .before .args .s) in
-    let e = four-word s (omega arith) in
-    (rw (c .before .before .before .before .before .before .wide .ensures .0, c .before .before .before .before .wide2 .ensures .0, c .before .before .wide3 .ensures .0, c .wide4 .ensures .0) e, omega arith)
+    let w0 = c .before .before .before .before .before .before .wide .ensures in
+    let w1 = c .before .before .before .before .wide2 .ensures in
+    let w2 = c .before .before .wide3 .ensures in
+    let w3 = c .wide4 .ensures in (
+      rw (w0 .0, w1 .0, w2 .0, w3 .0) (four-bytes (getD s 0 0) (getD s 1 0) (getD s 2 0) (getD s 3 0) (omega arith) (omega arith) (omega arith) (omega arith) ∙ four-are s (omega arith)),
+      omega arith,
+    )
 
-pub four-spec : {M : Type 1} → statement M
-four-spec =
+pub four-bytes-spec : {M : Type 1} → statement M
+four-bytes-spec =
     tie.close
     (tie.spec
     shared-slice-read-wide
