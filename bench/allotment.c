@@ -169,6 +169,47 @@ __attribute__((noinline)) static void reference_allot(const struct book *b,
     result->marginal = NO_RATE;
 }
 
+// Whether a rate is better than another.
+static bool better(const struct book *b, uint32_t rate, uint32_t other)
+{
+    return b->lp ? rate > other : rate < other;
+}
+
+// The best rate of the bids in, past the last one if there was one, and their total; 0 where none is left.
+static bool next_rate(const struct book *b, bool some, uint32_t last, uint32_t *rate, uint64_t *sum)
+{
+    bool found = false;
+    *sum = 0;
+    for (size_t i = 0; i < PLACES; i++) {
+        uint32_t here = b->rates[i];
+        if (!is_in(b, i) || (some && !better(b, last, here)))
+            continue;
+        if (!found || better(b, here, *rate))
+            *sum = 0;
+        else if (here != *rate)
+            continue;
+        found = true;
+        *rate = here;
+        *sum += b->amounts[i];
+    }
+    return found;
+}
+
+// The marginal rate by a look at all places for every rate, to see what sorting them once saves.
+__attribute__((noinline)) static uint64_t scanned_marginal(const struct book *b)
+{
+    uint64_t left = b->offered, sum;
+    uint32_t rate = 0;
+    if (total(b) > MOST_BIDS)
+        return EXCEEDS;
+    for (bool some = false; next_rate(b, some, rate, &rate, &sum); some = true) {
+        if (sum >= left)
+            return rate;
+        left -= sum;
+    }
+    return NO_RATE;
+}
+
 // ---- Random books ----
 
 static uint64_t seed = UINT64_C(88172645463325252);
@@ -289,6 +330,10 @@ static void compare_books(void)
         if (library.marginal != reference.marginal
             || memcmp(library.awards, reference.awards, sizeof library.awards) != 0)
             fail_book(k, &b, &library, &reference);
+        if (scanned_marginal(&b) != reference.marginal) {
+            fprintf(stderr, "bench: the marginal rate of book %d differs by a look at all places\n", k);
+            exit(1);
+        }
         met += reference.marginal < NO_RATE;
         not_met += reference.marginal == NO_RATE;
         refused += reference.marginal == EXCEEDS;
@@ -349,6 +394,11 @@ static void reference_book(void)
     struct allotment result;
     reference_allot(&measured_book, &result);
     sink += result.marginal + result.awards[0];
+}
+
+static void scanned_book(void)
+{
+    sink += scanned_marginal(&measured_book);
 }
 
 // Nanoseconds of processor time.
@@ -416,6 +466,7 @@ static void measure_all(void)
     measure("an allotment, 640 bids, one rate", library_book, reference_book, 1000, "us");
     fill_book(1000);
     measure("an allotment, 640 bids and rates", library_book, reference_book, 1000, "us");
+    measure("the same, all places each rate", library_book, scanned_book, 1000, "us");
 }
 
 int main(int argc, char **argv)

@@ -1,24 +1,25 @@
 -- The loop over fields: what holds of it, and that each turn keeps it, one that takes a run of receptions and one that takes a field. Assumes nothing.
-use mathlib.Core.Path.{_≡_, refl, sym, ap, ap₂, subst, _∙_}
+use mathlib.Core.Path.{_≡_, refl, sym, ap, subst, _∙_}
 use mathlib.Core.Bool.{Bool, true, false, cond}
-use mathlib.Core.List.{List, [], _++_, append-nil}
+use mathlib.Core.List.{List, _++_}
 use mathlib.Core.Option.{none, some}
 use Prim.Native.Nat.{ℕ, _+_, _-_, _≤_}
 use native.Mathlib.Omega.{arith}
-use lib.ListN.{length, take, drop, getD, length-append, length-drop, drop-of-length-le}
-use lib.Seq.{take-all, length-take-le}
+use lib.ListN.{length, take, drop, getD, length-append, length-drop}
+use lib.Seq.{length-take-le}
 use Rattle.output.specs.Output.{Wrote}
 use Rattle.output.proofs.Output.{from-start}
 use Rattle.layout.specs.Fields.{lengthAt}
+use Rattle.layout.proofs.Fields.{first-byte}
 use Rattle.tender.specs.declared.Tender.{Tender}
 use Rattle.tender.specs.Viewed as tender
-use Rattle.log.specs.Steps.{Log, step, tagOf, contentOf, afterField, holdsField}
+use Rattle.log.specs.Steps.{Log, tagOf, contentOf, afterField, holdsField}
 use Rattle.journal.specs.declared.Journal.{Journal}
 use Rattle.journal.specs.declared.Stepped.{Stepped}
 use Rattle.journal.specs.Viewed.{viewed, Given, Steps, steppedIn, withTender}
 use Rattle.journal.specs.Runs.{Runs, holding}
 use Rattle.journal.proofs.Whole.{steps-in-room}
-use Rattle.journal.proofs.Running.{none-taken, leads-to, keeps, one-taken, and-then, tag-at, content-at, after-at}
+use Rattle.journal.proofs.Running.{none-taken, leads-to, keeps, one-taken, and-then, content-at, after-at, rest-lent, rest-length, rest-back}
 
 -- a text written from the start of a space that keeps its length fits into it
 pub wrote-within : (d text after : List ℕ) (n : ℕ) → Wrote d 0 text after n → length after ≡ length d → n ≤ length d
@@ -48,7 +49,7 @@ pub field-taken : (s : List ℕ) (at n : ℕ) → n ≡ lengthAt (drop at s) →
 field-taken s at n e j space after r h u roomy d =
     subst (λ (y : List ℕ). Runs (viewed j) (drop at s) space (viewed (r .journal)) y after (r .length)) (sym (after-at s at n e))
     (step-taken j (drop at s) space after r h u roomy
-    (subst (λ (p : ℕ × List ℕ). Steps (steppedIn space (viewed j) (p .0) (p .1)) space r after) (λ i. (tag-at s at i, content-at s at n e i)) d))
+    (subst (λ (p : ℕ × List ℕ). Steps (steppedIn space (viewed j) (p .0) (p .1)) space r after) (λ i. (sym (first-byte s at) i, content-at s at n e i)) d))
 
 -- receptions that were taken, as a run
 pub receptions-taken : (j k : Journal) (t : Tender) (x space y after : List ℕ) (n : ℕ) → j .ended ≡ false → j .opened ≡ true → k ≡ withTender j t
@@ -68,17 +69,12 @@ none-logged input space j g = record { runs = none-taken (viewed j) input space;
 
 -- a run more, over the rest of the space
 module _ {input before : List ℕ} {first : Journal} {space : List ℕ} {j : Journal} {at n : ℕ} (t : Logging input before first space j at n) where
-  -- the rest of the space, lent as a part, is all that follows the lines
-  rest-lent : take (length before - n) (drop n space) ≡ drop n space
-  rest-lent = let s = t .same in take-all (length before - n) (drop n space) (omega (arith, length-drop n space, s))
+  -- what is lent is all that follows the lines
+  rest : length before - n ≡ length space - n
+  rest = ap (λ (k : ℕ). k - n) (sym (t .same))
 
-  rest-back : (part : List ℕ) → part ++ drop (length before - n) (drop n space) ≡ part
-  rest-back part =
-      let s = t .same in
-      ap (λ (l : List ℕ). part ++ l) (drop-of-length-le (drop n space) {i = length before - n} (omega (arith, length-drop n space, s))) ∙ append-nil part
-
-  pub rest-length : length (take (length before - n) (drop n space)) ≡ length before - n
-  rest-length = let s = t .same in ap length rest-lent ∙ length-drop n space ∙ ap (λ (k : ℕ). k - n) s
+  pub room-left : length (take (length before - n) (drop n space)) ≡ length before - n
+  room-left = rest-length space n (length before - n) rest
 
   pub one-logged : (k : Journal) (next m : ℕ) (part : List ℕ)
       → Runs (viewed j) (drop at input) (take (length before - n) (drop n space)) (viewed k) (drop next input) part m
@@ -88,12 +84,12 @@ module _ {input before : List ℕ} {first : Journal} {space : List ℕ} {j : Jou
       let small = wrote-within (take (length before - n) (drop n space)) (r .text) part m (r .wrote) e in
       let o = t .room in
       let s = t .same in
-      let l = rest-length in
-      let back = rest-back part in
+      let l = room-left in
+      let back = rest-back space n (length before - n) rest part in
       record {
         runs =
             subst (λ (x : List ℕ). Runs (viewed first) input before (viewed k) (drop next input) (take n space ++ x) (n + m)) (sym back)
-            (and-then (t .runs) (subst (λ (x : List ℕ). Runs (viewed j) (drop at input) x (viewed k) (drop next input) part m) rest-lent r));
+            (and-then (t .runs) (subst (λ (x : List ℕ). Runs (viewed j) (drop at input) x (viewed k) (drop next input) part m) (rest-lent space n (length before - n) rest) r));
         given = g;
         within = w;
         room = omega (arith, small, l, o);

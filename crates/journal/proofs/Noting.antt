@@ -1,10 +1,10 @@
 -- What a reception comes to, as a line of the log and the tender after it. Assumes nothing.
 use mathlib.Core.Path.{_≡_, refl, sym, ap, subst, _∙_}
-use mathlib.Core.List.{List, [], _++_, append-nil}
+use mathlib.Core.List.{List, _++_}
 use mathlib.Core.Option.{Option, none, some}
-use Prim.Native.Nat.{ℕ, _+_, _-_, _≤_}
+use Prim.Native.Nat.{ℕ, _+_, _-_}
 use native.Mathlib.Omega.{arith}
-use lib.ListN.{length, take, drop, replicate, length-drop, drop-of-length-le}
+use lib.ListN.{length, take, drop, replicate, length-drop}
 use lib.Seq.{take-all}
 use Rattle.output.specs.Output.{Wrote}
 use Rattle.rules.specs.Receiving.{Reception, Error, Entry, returnedErrors}
@@ -17,7 +17,7 @@ use Rattle.tender.specs.declared.Tender.{Tender}
 use Rattle.tender.specs.declared.internal.Outcome.{Outcome}
 use Rattle.tender.specs.Viewed.{viewed, numberOf, answerIn, leftBy}
 use Rattle.tender.specs.Calls.{Left, ComesTo}
-use Rattle.journal.proofs.Running.{part-wrote}
+use Rattle.journal.proofs.Running.{rest-lent, rest-back, part-wrote}
 
 -- the reception of a field, with the message that follows its clock
 pub reception-is : (s m : List ℕ) (date time : ℕ) → m ≡ drop 14 s → date ≡ dateOf s → time ≡ timeOf s → checks.received m date time (replicate 418 0) ≡ receptionIn s
@@ -70,15 +70,8 @@ module _ (t : Tender) (s m : List ℕ) (date time : ℕ) (o : Outcome) (c : Come
   left-told = line-and-left .1
 
 -- a write at the start of the rest of a space, lent as a part
-module _ (d : List ℕ) (at : ℕ) where
-  rest-lent : take (length d - at) (drop at d) ≡ drop at d
-  rest-lent = take-all (length d - at) (drop at d) (omega (arith, length-drop at d))
-
-  pub rest-lent-length : length (take (length d - at) (drop at d)) ≡ length d - at
-  rest-lent-length = ap length rest-lent ∙ length-drop at d
-
-  pub rest-wrote : (n : ℕ) (text part : List ℕ) → Wrote (take (length d - at) (drop at d)) 0 text part n → Wrote d at text (take at d ++ (part ++ drop (length d - at) (drop at d))) (at + n)
-  rest-wrote n text part w =
-      subst (λ (y : List ℕ). Wrote d at text (take at d ++ y) (at + n))
-      (sym (ap (λ (l : List ℕ). part ++ l) (drop-of-length-le (drop at d) {i = length d - at} (omega (arith, length-drop at d))) ∙ append-nil part))
-      (part-wrote d at n text part (subst (λ (y : List ℕ). Wrote y 0 text part n) rest-lent w))
+pub rest-wrote : (d : List ℕ) (at n : ℕ) (text part : List ℕ) → Wrote (take (length d - at) (drop at d)) 0 text part n
+    → Wrote d at text (take at d ++ (part ++ drop (length d - at) (drop at d))) (at + n)
+rest-wrote d at n text part w =
+    subst (λ (y : List ℕ). Wrote d at text (take at d ++ y) (at + n)) (sym (rest-back d at (length d - at) refl part))
+    (part-wrote d at n text part (subst (λ (y : List ℕ). Wrote y 0 text part n) (rest-lent d at (length d - at) refl) w))

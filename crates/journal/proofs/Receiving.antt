@@ -27,7 +27,7 @@ use Rattle.tender.specs.declared.State.{State}
 use Rattle.tender.specs.declared.Tender.{Tender}
 use Rattle.tender.specs.declared.internal.Outcome.{Outcome}
 use Rattle.tender.specs.Viewed as tender
-use Rattle.log.specs.Steps.{Log, received, step, tagOf, contentOf, afterField}
+use Rattle.log.specs.Steps.{Log, received}
 use Rattle.journal.specs.Runs.{Runs, holding, receptionFirst}
 use Rattle.journal.proofs.Running.{none-taken, leads-to, one-taken, content-at, after-at, ends-at, reception-held, reception-step}
 

@@ -1,21 +1,22 @@
 -- Laws of runs: nothing taken yet, one field more, and one run after another. Assumes nothing.
-use mathlib.Core.Path.{_≡_, refl, sym, ap, ap₂, subst, _∙_}
-use mathlib.Core.Bool.{Bool, true, false, cond, not, _&&_}
-use mathlib.Core.List.{List, [], _∷_, _++_, append-assoc}
-use mathlib.Core.Option.{Option, some}
+use mathlib.Core.Path.{_≡_, refl, sym, ap, subst, _∙_}
+use mathlib.Core.Bool.{true, false, cond, not, _&&_}
+use mathlib.Core.List.{List, [], _++_, append-assoc, append-nil}
+use mathlib.Core.Option.{some}
 use Prim.Native.Nat.{ℕ, zero, suc, _+_, _-_, _≤_}
-use native.Mathlib.Nat.{add-zero, zero-add}
+use native.Mathlib.Nat.{zero-add}
 use native.Mathlib.Omega.{arith}
-use lib.Dec.{eqb, ltb, leb}
-use lib.ListN.{length, take, drop, getD, length-drop}
-use lib.Seq.{drop-drop, getD-drop, length-take-le}
-use borrow.Author.Tests.{eq-eqb, eqb-true, leb-true, le-ltb}
+use lib.Dec.{eqb, leb}
+use lib.ListN.{length, take, drop, getD, length-drop, drop-of-length-le}
+use lib.Seq.{drop-drop, take-all, length-take-le}
+use borrow.Author.Tests.{eqb-true, leb-true, le-ltb}
 use Rattle.laws.proofs.Tests.{and-left, and-right}
 use Rattle.output.specs.Output.{overlay, Wrote}
 use Rattle.output.proofs.Output.{nothing, then, from-start}
 use Rattle.layout.specs.Fields.{lengthAt}
+use Rattle.layout.proofs.Fields.{first-byte}
 use Rattle.rules.specs.Calls as rules
-use Rattle.log.specs.Steps.{Log, Step, received, reception, step, tagOf, contentOf, afterField, holdsField, walked, logFrom}
+use Rattle.log.specs.Steps.{Log, received, reception, step, tagOf, contentOf, afterField, holdsField, walked, logFrom}
 use Rattle.log.proofs.Walks.{held-head, held-whole, field-first}
 use Rattle.journal.specs.Viewed.{kept}
 use Rattle.journal.specs.Runs.{Runs, receptionFirst}
@@ -57,6 +58,17 @@ one-taken {k = k} {x = x} r h e w =
           ∙ sym (append-assoc (r .text) (step k (tagOf x) (contentOf x) .1) (logFrom (step k (tagOf x) (contentOf x) .0) (afterField x ++ rest)));
     }
 
+-- all that follows an index, lent as a part of so many bytes and given back
+module _ (d : List ℕ) (at w : ℕ) (e : w ≡ length d - at) where
+  pub rest-lent : take w (drop at d) ≡ drop at d
+  rest-lent = take-all w (drop at d) (omega (arith, length-drop at d, e))
+
+  pub rest-length : length (take w (drop at d)) ≡ w
+  rest-length = ap length rest-lent ∙ length-drop at d ∙ sym e
+
+  pub rest-back : (part : List ℕ) → part ++ drop w (drop at d) ≡ part
+  rest-back part = ap (λ (l : List ℕ). part ++ l) (drop-of-length-le (drop at d) {i = w} (omega (arith, length-drop at d, e))) ∙ append-nil part
+
 -- a write at the start of what follows an index is one at the index
 pub part-wrote : (d : List ℕ) (at m : ℕ) (text part : List ℕ) → Wrote (drop at d) 0 text part m → Wrote d at text (take at d ++ part) (at + m)
 unfolding overlay
@@ -83,9 +95,6 @@ and-then {k = k} {j = j} {after = after} {y = y} {part = part} {n = n} {m = m} r
     }
 
 -- the field at an index, as the code reads it
-pub tag-at : (s : List ℕ) (at : ℕ) → getD s at 0 ≡ tagOf (drop at s)
-tag-at s at = sym (rw (getD-drop, add-zero) refl)
-
 module _ (s : List ℕ) (at n : ℕ) (e : n ≡ lengthAt (drop at s)) where
   pub content-at : take (at + 3 + n - (at + 3)) (drop (at + 3) s) ≡ contentOf (drop at s)
   content-at =
@@ -104,14 +113,14 @@ module _ (s : List ℕ) (at n : ℕ) (e : n ≡ lengthAt (drop at s)) where
       let d = length-drop at s in
       omega arith
 
-  pub content-length : holdsField (drop at s) ≡ true → length (contentOf (drop at s)) ≡ n
+  content-length : holdsField (drop at s) ≡ true → length (contentOf (drop at s)) ≡ n
   content-length h =
       let w = held-whole (drop at s) h in
       length-take-le (lengthAt (drop at s)) (drop 3 (drop at s)) (omega (arith, length-drop 3 (drop at s))) ∙ sym e
 
   -- whether it is a reception
   pub reception-at : holdsField (drop at s) ≡ true → (eqb (getD s at 0) 0xA2 && leb 14 n) ≡ receptionFirst (drop at s)
-  reception-at h = sym (rw (h, content-length h, ← tag-at s at))
+  reception-at h = sym (rw (h, content-length h, first-byte s at))
 
 -- what a reception at the start says
 module _ (x : List ℕ) (h : receptionFirst x ≡ true) where

@@ -57,7 +57,7 @@ module _ (e : Entry) (m : List ℕ) (h : starts e m ≡ true) where
 pub short-at : (e : Entry) (m : List ℕ) (at : ℕ) → length m - at < 3 + lengthAt (drop at m) → false ≡ starts e (drop at m)
 short-at e m at h = sym (starts-short e (drop at m) (rw length-drop h))
 
-first-byte : (m : List ℕ) (at : ℕ) → getD (drop at m) 0 0 ≡ getD m at 0
+pub first-byte : (m : List ℕ) (at : ℕ) → getD (drop at m) 0 0 ≡ getD m at 0
 first-byte m at = getD-drop at m 0 0 ∙ ap (λ (k : ℕ). getD m k 0) (add-zero at)
 
 pub other-at : (e : Entry) (m : List ℕ) (at : ℕ) → (getD m at 0 ≡ e .tag → ⊥) → false ≡ starts e (drop at m)

@@ -19,7 +19,16 @@ struct Turn {
     journal: Journal,
 }
 
-// Takes the fields that are there and writes their lines; where they cannot be written it says so, and there is no more to do.
+// Writes lines; where they cannot be written it says so.
+fn write_lines(lines: &[u8]) -> bool {
+    let written = io::write_all(STDOUT_FILENO, lines);
+    if !written {
+        os::fail(b"session_log");
+    }
+    written
+}
+
+// Takes the fields that are there and writes their lines; after lines that cannot be written there is no more to do.
 fn log_fields(t: Turn, input: &[u8], lines: &mut [u8]) -> Turn
     requires { ⌜ Given (t .journal) × (t .from ≤ t .to) × (t .to ≤ length (now input)) ⌝ }
     ensures { λ r. ⌜ Given (r .journal) × (r .from ≤ r .to) × (r .to ≤ length (now (input .entry))) ⌝ }
@@ -28,16 +37,14 @@ fn log_fields(t: Turn, input: &[u8], lines: &mut [u8]) -> Turn
     let from = t.from;
     let to = t.to;
     let logged = run(j, &input[from..to], lines);
+    let used = logged.used;
     let n = logged.length;
     let next = logged.journal;
-    let written = io::write_all(STDOUT_FILENO, &lines[0..n]);
-    if !written {
-        os::fail(b"session_log");
-    }
+    let written = write_lines(&lines[0..n]);
     Turn {
         more: written & !has_ended(next),
-        waits: 23040 <= lines.len() - n,
-        from: from + logged.used,
+        waits: used == 0,
+        from: from + used,
         to,
         journal: next,
     }

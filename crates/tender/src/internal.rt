@@ -1,4 +1,4 @@
-// What a reception comes to and leaves in the book, and a tender made for a case.
+// What a reception comes to and leaves in the book, and a tender made of its parts.
 use crate::Refusal;
 use crate::State;
 use crate::Tender;
@@ -131,7 +131,7 @@ pub fn held_in(b: Book, o: Outcome) -> Book
     b
 }
 
-// A tender of its parts, as no call gives one: for cases that no receptions lead to.
+// A tender of its parts: for a book that was changed in place, and for cases that no receptions lead to.
 pub fn tender_of(state: State, terms: Terms, book: Book) -> Tender
     ensures { λ r. ⌜ r ≡ tenderOf state terms book ⌝ }
 {

@@ -1,8 +1,7 @@
 -- `journal::run` meets its contract. The loop's invariant: the fields up to an index are taken and their lines written. Assumes nothing.
 use borrow.Author.Needs.{needs}
-use mathlib.Core.Path.{_≡_, refl, sym, ap, subst, _∙_}
+use mathlib.Core.Path.{_≡_, sym, ap, subst, _∙_}
 use mathlib.Core.Bool.{Bool, true, false, _&&_, not}
-use mathlib.Core.List.{List}
 use Prim.Native.Nat.{ℕ, _+_, _-_, _≤_, _<_}
 use native.Mathlib.Omega.{arith}
 use denote.Ref.{now}
@@ -15,7 +14,7 @@ use Rattle.log.proofs.Walks.{held-head}
 use Rattle.journal.specs.Viewed.{Given}
 use Rattle.journal.specs.Runs.{receptionFirst}
 use Rattle.journal.proofs.Running.{ends-at}
-use Rattle.journal.proofs.Logging.{wrote-within, field-taken, receptions-taken, Logging, none-logged, rest-length, one-logged}
+use Rattle.journal.proofs.Logging.{wrote-within, field-taken, receptions-taken, Logging, none-logged, room-left, one-logged}
 use Rattle.journal.proofs.run.Statement.{statement}
 use Rattle.journal.proofs.run.Tie as tie
 
@@ -40,7 +39,7 @@ roomy : (c : tie.Then1 Inv-loop μ-loop) → 23040 ≤ length (now (c .before .b
 roomy c = leb-true 23040 (length (now (c .before .before .before .before .before .before .args .space)) - c .before .before .before .loop .length) (and-right (c .before .before .holds-field .result && not (c .before .before .before .loop .now .ended)) _ (going c))
 
 part-roomy : (c : tie.Then1 Inv-loop μ-loop) → (let l = c .before .before .before .loop in 23040 ≤ length (take (length (now (c .before .before .before .before .before .before .args .space)) - l .length) (drop (l .length) (l .space))))
-part-roomy c = subst (λ (k : ℕ). 23040 ≤ k) (sym (rest-length (c .before .before .before .loop .inv))) (roomy c)
+part-roomy c = subst (λ (k : ℕ). 23040 ≤ k) (sym (room-left (c .before .before .before .loop .inv))) (roomy c)
 
 -- the field's head and its end
 headed : (c : tie.Then1 Inv-loop μ-loop) → c .before .before .before .loop .at + 3 ≤ length (now (c .before .before .before .before .before .before .args .input))
@@ -98,7 +97,7 @@ with-tender-requires c κs = search needs
 add-length : tie.Need-add-length Inv-loop μ-loop
 add-length c =
     let w = c .before .before .before .before .before .receptions .ensures .4 in
-    let r = rest-length (c .before .before .before .before .before .before .before .before .before .before .before .before .before .before .loop .inv) in
+    let r = room-left (c .before .before .before .before .before .before .before .before .before .before .before .before .before .before .loop .inv) in
     let o = c .before .before .before .before .before .before .before .before .before .before .before .before .before .before .loop .inv .room in
     let f = space-short (c .before .before .before .before .before .before .before .before .before .before .before .before .before .before .before) in
     omega (arith, w, r, o, f)
@@ -161,7 +160,7 @@ add-length-2 c =
     let w = c .before .before .before .before .step in
     let l = c .before .before .before .before .before .before .before .before .before .before .before .before .before .before .before .loop in
     let h = wrote-within _ _ _ (w .result .length) (w .ensures .1 .lines) (w .kept .1 .1 .1 .0) in
-    let r = rest-length (l .inv) in
+    let r = room-left (l .inv) in
     let o = l .inv .room in
     let f = space-short (c .before .before .before .before .before .before .before .before .before .before .before .before .before .before .before .before) in
     omega (arith, h, r, o, f)

@@ -1,5 +1,6 @@
 -- `journal::runs::note` meets its contract. Assumes nothing.
 use borrow.Author.Needs.{needs}
+use mathlib.Core.Path.{refl}
 use Prim.Native.Nat.{_+_, _≤_, _<_}
 use native.Mathlib.Omega.{arith}
 use denote.Ref.{now}
@@ -8,7 +9,8 @@ use Rattle.output.proofs.Output.{said}
 use Rattle.tender.specs.declared.Tender.{Tender}
 use Rattle.tender.specs.Viewed.{tenderOf}
 use Rattle.journal.proofs.Logging.{wrote-within}
-use Rattle.journal.proofs.Noting.{message-is, line-told, left-told, rest-lent-length, rest-wrote}
+use Rattle.journal.proofs.Noting.{message-is, line-told, left-told, rest-wrote}
+use Rattle.journal.proofs.Running.{rest-length}
 use Rattle.journal.proofs.runs.note.Statement.{statement}
 use Rattle.journal.proofs.runs.note.Tie as tie
 
@@ -44,7 +46,7 @@ put-answer-requires c κs =
     let o = c .before .before in
     let start = o .before .before .before .before .before .before in
     let a = start .args in
-    let l = rest-lent-length (now (a .space)) (a .at) in
+    let l = rest-length (now (a .space)) (a .at) _ refl in
     (o .outcome-of .ensures .readable-told, ((o .outcome-of .ensures .few, start .pre .1 .0, omega (arith, l, start .pre .1 .1)), message-is (now (a .s))))
 
 -- the line fits into the space
@@ -53,7 +55,7 @@ fits c =
     let start = c .before .before .before .before .before .before .before .before .before in
     let a = start .args in
     let w = wrote-within _ _ _ _ (c .put-answer .ensures 0) (c .put-answer .kept .0) in
-    let l = rest-lent-length (now (a .space)) (a .at) in
+    let l = rest-length (now (a .space)) (a .at) _ refl in
     omega (arith, w, l, start .pre .1 .1)
 
 -- no space is longer than an index

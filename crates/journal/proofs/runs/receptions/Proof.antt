@@ -1,7 +1,7 @@
 -- `journal::runs::receptions` meets its contract. The loop's invariant: the fields up to an index are taken and their lines written, where the places still to be stored count as stored. Assumes nothing.
 use borrow.Author.Needs.{needs}
-use mathlib.Core.Path.{_≡_, refl, sym, ap, subst, _∙_}
-use mathlib.Core.Bool.{Bool, true, false, _&&_, _||_, false≢true}
+use mathlib.Core.Path.{_≡_, sym, ap, subst, _∙_}
+use mathlib.Core.Bool.{Bool, true, _&&_, _||_}
 use mathlib.Core.List.{List}
 use mathlib.Core.Option.{some}
 use Prim.Native.Nat.{ℕ, _+_, _-_, _*_, _≤_, _<_}
@@ -10,8 +10,8 @@ use mir.Val.{Val}
 use denote.Ref.{now}
 use denote.Laws.{Is}
 use lib.Dec.{ltb, leb}
-use lib.ListN.{length, take, drop, length-drop}
-use borrow.Author.Tests.{le-ltb, ltb-true, ltb-false, leb-true, le-leb}
+use lib.ListN.{length, drop, length-drop}
+use borrow.Author.Tests.{le-ltb, ltb-false, leb-true}
 use Rattle.laws.proofs.Arrays.{length-mapped}
 use Rattle.laws.proofs.Tests.{and-left, and-right, or-left, or-right}
 use Rattle.book.specs.declared.Book.{Book}
@@ -21,10 +21,10 @@ use Rattle.tender.proofs.internal.Outcome as outcome
 use Rattle.tender.specs.declared.Tender.{Tender}
 use Rattle.tender.specs.declared.internal.Outcome.{Outcome}
 use Rattle.tender.specs.Viewed as tender
-use Rattle.tender.specs.Viewed.{tenderOf, isHeld}
+use Rattle.tender.specs.Viewed.{tenderOf}
 use Rattle.log.proofs.Walks.{held-head}
 use Rattle.journal.specs.Runs.{holding, receptionFirst}
-use Rattle.journal.proofs.Running.{none-taken, leads-to, content-at, content-length, ends-at, reception-held, reception-clock}
+use Rattle.journal.proofs.Running.{leads-to, content-at, ends-at, reception-held, reception-clock}
 use Rattle.journal.proofs.Receiving.{Taking, none-received, one-stored, moved, given-whole, runs-whole, one-held, one-not-held}
 use Rattle.journal.proofs.runs.receptions.Statement.{statement}
 use Rattle.journal.proofs.runs.receptions.Tie as tie
@@ -88,116 +88,89 @@ headed c =
 at-64 : (c : tie.Then3 Inv-loop μ-loop) → c .before .before .before .before .before .note .result .outcome .at < 64
 at-64 c = c .before .before .before .before .before .note .ensures .3 (sym (c .before .is-held .ensures) ∙ c .if3 .taken)
 
--- src/runs.rt:84:9
 state-requires : tie.Need-state-requires Inv-loop μ-loop
 state-requires c κs = search needs
 
--- src/runs.rt:85:9
 terms-requires : tie.Need-terms-requires Inv-loop μ-loop
 terms-requires c κs = search needs
 
--- src/runs.rt:86:20
 book-requires : tie.Need-book-requires Inv-loop μ-loop
 book-requires c κs = search needs
 
--- src/runs.rt:93:5
 loop-holds : tie.Need-loop-holds Inv-loop μ-loop
 loop-holds c =
     let start = c .before .before .before .before .before in
     let a = start .args in
     none-received (now (a .input)) (a .from) (now (a .space)) (a .t) (c .before .before .state .result) (c .before .terms .result) (c .book .result) (c .before .before .state .ensures) (c .before .terms .ensures) (c .book .ensures) (start .pre .0) (start .pre .1) (sized (c .book .result) _ (c .book .ok))
 
--- src/runs.rt:93:28
 is-reception-requires : tie.Need-is-reception-requires Inv-loop μ-loop
 is-reception-requires c κs = c .loop .inv .within
 
--- src/runs.rt:93:61
 sub-if1 : tie.Need-sub-if1 Inv-loop μ-loop
 sub-if1 c = omega arith
 
--- src/runs.rt:95:41
 mul-book : tie.Need-mul-book Inv-loop μ-loop
 mul-book c = omega arith
 
--- src/runs.rt:95:41
 array-copy-out-book : tie.Need-array-copy-out-book Inv-loop μ-loop
 array-copy-out-book c = omega arith
 
--- src/runs.rt:95:24
 add-t32 : tie.Need-add-t32 Inv-loop μ-loop
 add-t32 c = omega arith
 
--- src/runs.rt:95:13
 mul-t33 : tie.Need-mul-t33 Inv-loop μ-loop
 mul-t33 c = omega arith
 
--- src/runs.rt:95:13
 element-set-from-book : tie.Need-element-set-from-book Inv-loop μ-loop
 element-set-from-book c = omega arith
 
--- src/runs.rt:96:43
 mul-book-2 : tie.Need-mul-book-2 Inv-loop μ-loop
 mul-book-2 c = omega arith
 
--- src/runs.rt:96:43
 array-copy-out-book-2 : tie.Need-array-copy-out-book-2 Inv-loop μ-loop
 array-copy-out-book-2 c = omega arith
 
--- src/runs.rt:96:26
 add-t33 : tie.Need-add-t33 Inv-loop μ-loop
 add-t33 c = omega arith
 
--- src/runs.rt:96:13
 mul-t32 : tie.Need-mul-t32 Inv-loop μ-loop
 mul-t32 c = omega arith
 
--- src/runs.rt:96:13
 element-set-from-book-2 : tie.Need-element-set-from-book-2 Inv-loop μ-loop
 element-set-from-book-2 c = omega arith
 
--- src/runs.rt:97:13
 add-stored : tie.Need-add-stored Inv-loop μ-loop
 add-stored c = omega arith
 
--- src/runs.rt:93:5
 loop-less : tie.Need-loop-less Inv-loop μ-loop
 loop-less c = omega arith
 
--- src/runs.rt:93:5
 loop-again : tie.Need-loop-again Inv-loop μ-loop
 loop-again c =
     let at-loop = c .before .before .before .before .before in
     one-stored (at-loop .loop .inv) _ _ (c .before .before .if2 .taken)
 
--- src/runs.rt:99:23
 add-end : tie.Need-add-end Inv-loop μ-loop
 add-end c = let h = headed c in omega (arith, h)
 
--- src/runs.rt:99:32
 length-at-requires : tie.Need-length-at-requires Inv-loop μ-loop
 length-at-requires c κs = headed c
 
--- src/runs.rt:99:23
 add-end-2 : tie.Need-add-end-2 Inv-loop μ-loop
 add-end-2 c = let h = ends c in omega (arith, h)
 
--- src/runs.rt:100:57
 add-note : tie.Need-add-note Inv-loop μ-loop
 add-note c = let h = ends c in omega (arith, h)
 
--- src/runs.rt:100:50
 sub-note : tie.Need-sub-note Inv-loop μ-loop
 sub-note c = let h = ends c in omega (arith, h)
 
--- src/runs.rt:100:50
 part-note-start : tie.Need-part-note-start Inv-loop μ-loop
 part-note-start c = let h = ends c in omega (arith, h)
 
--- src/runs.rt:100:50
 part-note-end : tie.Need-part-note-end Inv-loop μ-loop
 part-note-end c = let h = ends c in omega (arith, h)
 
--- src/runs.rt:100:17
 note-requires : tie.Need-note-requires Inv-loop μ-loop
 note-requires c κs =
     let l = c .before .before .before .before .before .before .loop in
@@ -209,31 +182,24 @@ note-requires c κs =
       (subst (λ (s : List ℕ). 14 ≤ length s) (sym (content-at (now (a .input)) (l .at) (n .result) (n .ensures .0))) (reception-clock x f), roomy (c .before .before .before)),
     )
 
--- src/runs.rt:103:16
 is-held-requires : tie.Need-is-held-requires Inv-loop μ-loop
 is-held-requires c κs = search needs
 
--- src/runs.rt:104:17
 mul-book-3 : tie.Need-mul-book-3 Inv-loop μ-loop
 mul-book-3 c = let h = at-64 c in omega (arith, h)
 
--- src/runs.rt:104:17
 element-write-book : tie.Need-element-write-book Inv-loop μ-loop
 element-write-book c = let h = at-64 c in omega (arith, h)
 
--- src/runs.rt:105:17
 element-write-book-2 : tie.Need-element-write-book-2 Inv-loop μ-loop
 element-write-book-2 c = let h = at-64 c in omega (arith, h)
 
--- src/runs.rt:106:24
 mul-base : tie.Need-mul-base Inv-loop μ-loop
 mul-base c = let h = at-64 c in omega (arith, h)
 
--- src/runs.rt:93:5
 loop-less-2 : tie.Need-loop-less-2 Inv-loop μ-loop
 loop-less-2 c = let h = ends (c .before .before .before .before .before .before .before .before .before .before) in omega (arith, h)
 
--- src/runs.rt:93:5
 loop-again-2 : tie.Need-loop-again-2 Inv-loop μ-loop
 loop-again-2 c =
     let noted = c .before .before .before .before .before .before .before in
@@ -242,11 +208,9 @@ loop-again-2 c =
     let w = noted .note in
     one-held (l .inv) (looked .before .if2 .left) (first (looked .before)) (looked .length-at .result) (looked .length-at .ensures .0) _ (w .result .end) (w .result .outcome) (w .ensures .0) (w .ensures .2) (w .ensures .1) (sym (c .before .before .before .is-held .ensures) ∙ c .before .before .if3 .taken) (at-64 (c .before .before)) (noted-rates noted) (noted-amounts noted)
 
--- src/runs.rt:93:5
 loop-less-3 : tie.Need-loop-less-3 Inv-loop μ-loop
 loop-less-3 c = let h = ends (c .before .before .before .before .before .before .before .before) in omega (arith, h)
 
--- src/runs.rt:93:5
 loop-again-3 : tie.Need-loop-again-3 Inv-loop μ-loop
 loop-again-3 c =
     let noted = c .before .before .before .before .before in
@@ -255,15 +219,12 @@ loop-again-3 c =
     let w = noted .note in
     one-not-held (l .inv) (looked .before .if2 .left) (first (looked .before)) (looked .length-at .result) (looked .length-at .ensures .0) _ (w .result .end) (w .result .outcome) (w .ensures .0) (w .ensures .2) (w .ensures .1) (sym (c .before .is-held .ensures) ∙ c .if3 .left)
 
--- src/runs.rt:118:17
 tender-of-requires : tie.Need-tender-of-requires Inv-loop μ-loop
 tender-of-requires c κs = search needs
 
--- src/runs.rt:79:1
 same-length : tie.Need-same-length Inv-loop μ-loop
 same-length c = c .before .before .before .loop .inv .same
 
--- src/runs.rt:79:1
 returns : tie.Need-returns Inv-loop μ-loop
 returns c =
     let start = c .before .before .before .before .before .before .before .before .before in
