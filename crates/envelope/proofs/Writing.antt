@@ -1,14 +1,17 @@
 -- Laws of a written 6G1. Assumes nothing.
-use mathlib.Core.Path.{_≡_, refl, _∙_}
+use mathlib.Core.Path.{_≡_, refl, sym, ap, _∙_}
 use mathlib.Core.Bool.{true, _&&_}
 use mathlib.Core.List.{List, _++_, append-assoc, append-nil}
-use Prim.Native.Nat.{ℕ, _+_}
+use Prim.Native.Nat.{ℕ, _+_, _-_, _≤_}
+use native.Mathlib.Omega.{arith}
 use lib.Dec.{eqb}
 use lib.ListN.{length, take, drop, getD}
 use borrow.Author.Tests.{eqb-true}
 use Rattle.laws.proofs.Tests.{and-left, and-right}
+use Rattle.output.specs.Output.{overlay, Wrote}
+use Rattle.output.proofs.Output.{covered}
 use Rattle.digits.specs.Decimal.{allDigits, digits}
-use Rattle.digits.proofs.Writing.{length-digits}
+use Rattle.digits.proofs.Writing.{length-digits, digits-last}
 use Rattle.layout.specs.Fields.{head, field, encoded}
 use Rattle.layout.proofs.ReturnTrip.{sizes, length-encoded}
 use Rattle.places.specs.declared.Rate.{Rate}
@@ -23,6 +26,24 @@ use Rattle.envelope.specs.Writing.{firstFields, lastFields}
 pub number-field : (tag w n : ℕ) → head tag w ++ digits w n ≡ field tag (digits w n)
 unfolding field
 number-field tag w n = rw length-digits
+
+-- eight digits that end with a field of five to eight, and its head over those that are too many
+pub short-field : (d : List ℕ) (at tag w n : ℕ) {d₁ d₂ : List ℕ} {e₁ e₂ : ℕ} → 5 ≤ w → w ≤ 8 → at + 3 + w ≤ length d → Wrote d (at + w - 5) (digits 8 n) d₁ e₁ → Wrote d₁ at (head tag w) d₂ e₂ → Wrote d at (field tag (digits w n)) d₂ e₁
+short-field d at tag w n h l m eight first =
+    let s = head tag w in
+    let t = digits 8 n in
+    let k : at + w - 5 ≡ at + (w - 5) = omega arith in
+    let j : 3 - (w - 5) ≡ 8 - w = omega arith in
+    let i : 8 - w + w ≡ 8 = omega arith in
+    let o : length t ≡ 8 = length-digits 8 n in
+    let last : drop (8 - w) t ≡ digits w n = ap (λ (x : ℕ). drop (8 - w) (digits x n)) (sym i) ∙ digits-last (8 - w) w n in
+    let text : s ++ drop (3 - (w - 5)) t ≡ field tag (digits w n) = ap (λ (x : ℕ). s ++ drop x t) j ∙ ap (λ (x : List ℕ). s ++ x) last ∙ number-field tag w n in
+    let p = length-digits w n in
+    let q : length (field tag (digits w n)) ≡ 3 + w = ap length (sym (number-field tag w n)) ∙ omega arith in
+    record {
+      bytes = first .bytes ∙ ap (λ (x : List ℕ). overlay x at s) (eight .bytes ∙ ap (λ (x : ℕ). overlay d x t) k) ∙ covered d at (w - 5) s t (omega arith) (omega arith) (omega arith) ∙ ap (overlay d at) text;
+      past = eight .past ∙ omega arith;
+    }
 
 -- a head and ten places are a field
 pub bids-field : (tag : ℕ) (rates : List Rate) (amounts : List Amount) → length rates ≡ 10 → length amounts ≡ 10 → head tag 240 ++ placesText rates amounts ≡ field tag (placesText rates amounts)

@@ -3,7 +3,6 @@ use crate::internal::bytes_in;
 use crate::internal::number_in;
 use digits::Digits;
 use digits::all_digits;
-use digits::internal::put_digits;
 use layout::internal::contents;
 use layout::internal::put_field;
 use layout::internal::put_head;
@@ -13,6 +12,8 @@ use places::Rate;
 use places::internal::put_places;
 use places::internal::read_places;
 use places::places_fit;
+use words::internal::put_digits;
+use words::internal::put_eight;
 ghost use mathlib.Core.Path.{_≡_};
 ghost use mathlib.Core.Bool.{true};
 ghost use Prim.Native.Nat.{_+_, _≤_};
@@ -183,11 +184,25 @@ fn texts_fit(kind: &[u8], identifier: &[u8], name: &[u8]) -> bool
     (kind.len() == 3) & is_identifier(identifier) & (name.len() == 15)
 }
 
+// Writes a field of five to eight digits: eight that end where the field does, then its head over
+// those that are too many, which takes fewer stores than each digit by itself.
+fn put_short(space: &mut [u8], at: usize, tag: u8, w: usize, n: u64) -> usize
+    requires { ⌜ (5 ≤ w) × (w ≤ 8) × (at + 3 + w ≤ length (now space)) ⌝ }
+    ensures { λ r. ⌜ Wrote (now (space .entry)) at (field tag (digits w n)) (now (space .exit)) r × (r ≡ at + 3 + w) ⌝ }
+{
+    let end = put_eight(space, at + w - 5, n);
+    put_head(space, at, tag, w);
+    end
+}
+
 // Writes a field of w digits and answers the index past it.
 fn put_number(space: &mut [u8], at: usize, tag: u8, w: usize, n: u64) -> usize
     requires { ⌜ at + 3 + w ≤ length (now space) ⌝ }
     ensures { λ r. ⌜ Wrote (now (space .entry)) at (field tag (digits w n)) (now (space .exit)) r × (r ≡ at + 3 + w) ⌝ }
 {
+    if (5 <= w) & (w <= 8) {
+        return put_short(space, at, tag, w, n);
+    }
     let start = put_head(space, at, tag, w);
     put_digits(space, start, w, n)
 }

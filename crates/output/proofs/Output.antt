@@ -1,12 +1,12 @@
 -- Laws of writes. Assumes nothing.
-use mathlib.Core.Path.{_≡_, refl, sym}
+use mathlib.Core.Path.{_≡_, refl, sym, ap, ap₂, _∙_}
 use mathlib.Core.List.{List, [], _∷_, _++_, append-assoc}
 use Prim.Native.Nat.{ℕ, _+_, _-_, _≤_, _<_}
 use native.Mathlib.Nat.{add-assoc, add-zero, zero-add}
 use native.Mathlib.Omega.{arith}
 use native.Mathlib.Numerals.{add-one}
 use lib.ListN.{length, take, drop, set, length-append, length-take, length-drop}
-use lib.Seq.{take-at, drop-at, drop-drop, length-take-le, set-split, append-snoc, paste-zero}
+use lib.Seq.{take-at, drop-at, take-take, drop-drop, take-append-le, drop-append-le, drop-append-add, length-take-le, set-split, append-snoc, paste-zero}
 use Rattle.output.specs.Output.{overlay, Wrote}
 
 -- one text after another
@@ -43,6 +43,25 @@ from-start d s = simp zero-add
 pub length-overlay : (d : List ℕ) (at : ℕ) (s : List ℕ) → at + length s ≤ length d → length (overlay d at s) ≡ length d
 unfolding overlay
 length-overlay d at s h = simp (length-append, length-take, length-drop) (omega arith)
+
+-- a text written over the start of one that stands k places on leaves the other's end
+pub covered : (d : List ℕ) (at k : ℕ) (s t : List ℕ) → k ≤ length s → length s ≤ k + length t → at + k + length t ≤ length d → overlay (overlay d (at + k) t) at s ≡ overlay d at (s ++ drop (length s - k) t)
+unfolding overlay
+covered d at k s t h l m =
+    let a = take (at + k) d in
+    let r = drop (at + k + length t) d in
+    let u = drop (length s - k) t in
+    let n : length a ≡ at + k = length-take-le (at + k) d (omega arith) in
+    let o : length (a ++ t) ≡ at + k + length t = length-append a t ∙ omega arith in
+    let x : take at (a ++ t ++ r) ≡ take at d = take-append-le at (a ++ t) r (omega arith) ∙ take-append-le at a t (omega arith) ∙ take-take at (at + k) d (omega arith) in
+    let p : at + length s ≡ length a + (length s - k) = omega arith in
+    let y : drop (at + length s) (a ++ t ++ r) ≡ u ++ r = drop-append-le (at + length s) (a ++ t) r (omega arith) ∙ ap (λ (z : List ℕ). z ++ r) (ap (λ (j : ℕ). drop j (a ++ t)) p ∙ drop-append-add a t (length s - k)) in
+    let v : length u ≡ length t - (length s - k) = length-drop (length s - k) t in
+    let z : length (s ++ u) ≡ k + length t = length-append s u ∙ omega arith in
+    let e : at + k + length t ≡ at + length (s ++ u) = omega arith in
+    ap₂ (λ (f g : List ℕ). f ++ s ++ g) x y
+    ∙ sym (append-assoc (take at d ++ s) u r)
+    ∙ ap₂ (λ (f : List ℕ) (j : ℕ). f ++ drop j d) (append-assoc (take at d) s u) e
 
 -- a part of w bytes, lent and given back as s
 pub part-back : (d : List ℕ) (at w : ℕ) (s : List ℕ) → length s ≡ w → take at d ++ (s ++ drop (at + w - at) (drop at d)) ≡ overlay d at s

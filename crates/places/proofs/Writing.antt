@@ -2,21 +2,32 @@
 use mathlib.Core.Path.{_≡_, sym, ap, _∙_}
 use mathlib.Core.Bool.{Bool, _&&_, and-assoc, and-true}
 use mathlib.Core.List.{List, [], _∷_, _++_, append-assoc, append-nil}
-use Prim.Native.Nat.{ℕ, zero, suc, _+_, _*_, _≤_, _<_}
+use Prim.Native.Nat.{ℕ, zero, suc, _+_, _*_, _/_, _%_, _≤_, _<_}
 use native.Mathlib.Nat.{not-suc-le-zero, le-of-suc-le-suc}
 use native.Mathlib.Numerals.{add-one}
 use native.Mathlib.Omega.{arith}
 use lib.Dec.{ltb}
 use lib.ListN.{length, take, drop, getD, length-append, drop-of-length-le}
 use lib.Seq.{drop-cons}
+use Rattle.digits.specs.Decimal.{digits}
 use Rattle.digits.proofs.Writing.{length-digits}
+use Rattle.words.proofs.Text.{last-eight}
 use Rattle.places.specs.declared.Rate.{Rate}
 use Rattle.places.specs.declared.Amount.{Amount}
-use Rattle.places.specs.Bids.{placeText, placesText, placesFit}
+use Rattle.places.specs.Bids.{slash, placeText, placesText, placesFit}
 
 pub length-place : (r : Rate) (a : Amount) → length (placeText r a) ≡ 24
 unfolding placeText
 length-place r a = simp (length-append, length-digits)
+
+-- a place as its three words
+pub place-words : (r : Rate) (a : Amount) → digits 8 (r .0) ++ (slash ∷ digits 7 (a .0 / 100000000)) ++ digits 8 (a .0 % 100000000) ≡ placeText r a
+unfolding placeText
+place-words r a =
+    let rate = digits 8 (r .0) in
+    let top = digits 7 (a .0 / 100000000) in
+    let e : top ++ digits 8 (a .0 % 100000000) ≡ digits 15 (a .0) = last-eight 15 (a .0) (omega arith) in
+    append-assoc rate (slash ∷ top) (digits 8 (a .0 % 100000000)) ∙ ap (λ (t : List ℕ). rate ++ (slash ∷ t)) e ∙ sym (append-assoc rate (slash ∷ []) (digits 15 (a .0)))
 
 pub length-places : (n : ℕ) (rates : List Rate) (amounts : List Amount) → length rates ≡ n → length amounts ≡ n → length (placesText rates amounts) ≡ 24 * n
 unfolding placesText

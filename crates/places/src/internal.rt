@@ -3,10 +3,11 @@ use crate::Amount;
 use crate::Place;
 use crate::Places;
 use crate::Rate;
-use digits::internal::put_digits;
 use words::internal::after_slash;
 use words::internal::all_small;
 use words::internal::lowered;
+use words::internal::put_eight;
+use words::internal::put_seven;
 use words::internal::value;
 ghost use mathlib.Core.Path.{_≡_};
 ghost use mathlib.Core.Bool.{true, _&&_};
@@ -83,14 +84,15 @@ pub fn read_places(s: &[u8]) -> Places
     }
 }
 
-// Writes one place from an index on and answers the index past it.
+// Writes one place from an index on and answers the index past it: eight digits, slash and seven
+// digits, eight digits.
 pub fn put_place(space: &mut [u8], at: usize, rate: Rate, amount: Amount) -> usize
     requires { ⌜ at + 24 ≤ length (now space) ⌝ }
     ensures { λ r. ⌜ Wrote (now (space .entry)) at (placeText rate amount) (now (space .exit)) r × (r ≡ at + 24) ⌝ }
 {
-    let slash = put_digits(space, at, 8, rate.0 as u64);
-    let second = output::internal::put_byte(space, slash, b'/');
-    put_digits(space, second, 15, amount.0)
+    let slash = put_eight(space, at, rate.0 as u64);
+    let last = put_seven(space, slash, amount.0 / 100000000);
+    put_eight(space, last, amount.0 % 100000000)
 }
 
 // Writes ten places.

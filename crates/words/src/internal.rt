@@ -1,9 +1,12 @@
-// Eight bytes at a time. What gives a number asks for bytes that were found to be 0 to 9.
+// Eight bytes at a time. What gives a number asks for bytes that were found to be 0 to 9, and writing for room.
 use digits::internal::wide;
 ghost use mathlib.Core.Path.{_≡_};
 ghost use mathlib.Core.Bool.{true};
-ghost use Prim.Native.Nat.{_<_};
+ghost use mathlib.Core.List.{_∷_};
+ghost use Prim.Native.Nat.{_+_, _%_, _<_, _≤_};
 ghost use lib.ListN.{length};
+ghost use Rattle.output.specs.Output.{Wrote};
+ghost use Rattle.digits.specs.Decimal.{digits};
 ghost use Rattle.words.specs.Words.{bytesOf, allSmall, decimal, Lowered, AfterSlash};
 
 // Four bytes as half a word, the first lowest.
@@ -54,4 +57,71 @@ pub fn value(t: u64) -> u64
     let p = (t * 10 + (t >> 8)) & 0x00FF00FF00FF00FF;
     let f = (p * 100 + (p >> 16)) & 0x0000FFFF0000FFFF;
     (f * 10000 + (f >> 32)) & 0xFFFFFFFF
+}
+
+// The word whose bytes are the eight digits of n, the first lowest: n is parted into fours, pairs
+// and digits, all of a step at once. Each step subtracts, since the compiler would store the bytes
+// of a sum one by one.
+fn parted(n: u64) -> u64
+    requires { ⌜ n < 100000000 ⌝ }
+    ensures { λ r. ⌜ (allSmall (bytesOf 8 r) ≡ true) × (decimal 0 (bytesOf 8 r) ≡ n) ⌝ }
+{
+    let f = n * 4294967296 - n / 10000 * 42949672959999;
+    let p = f * 65536 - ((f * 10486 >> 20) & 0x0000007F0000007F) * 6553599;
+    p * 256 - ((p * 103 >> 10) & 0x000F000F000F000F) * 2559
+}
+
+// The rest of n by m. A number below m is its own rest, and a test costs less than a division.
+fn rest(n: u64, m: u64) -> u64
+    requires { ⌜ 0 < m ⌝ }
+    ensures { λ r. ⌜ r ≡ n % m ⌝ }
+{
+    if n < m { n } else { n % m }
+}
+
+// Writes the bytes of a word over the whole of a part, the lowest first.
+fn fill(part: &mut [u8], t: u64)
+    ensures { λ _. ⌜ now (part .exit) ≡ bytesOf (length (now (part .entry))) t ⌝ }
+{
+    let mut i = 0;
+    let mut left = t;
+    while i < part.len() {
+        part[i] = (left % 256) as u8;
+        left = left / 256;
+        i += 1;
+    }
+}
+
+// Writes the last eight digits of n from an index on and answers the index past them.
+pub fn put_eight(space: &mut [u8], at: usize, n: u64) -> usize
+    requires { ⌜ at + 8 ≤ length (now space) ⌝ }
+    ensures { λ r. ⌜ Wrote (now (space .entry)) at (digits 8 n) (now (space .exit)) r × (r ≡ at + 8) ⌝ }
+{
+    let end = at + 8;
+    let t = parted(rest(n, 100000000)) + 0x3030303030303030;
+    fill(&mut space[at..end], t);
+    end
+}
+
+// Writes a slash and the last seven digits of n.
+pub fn put_seven(space: &mut [u8], at: usize, n: u64) -> usize
+    requires { ⌜ at + 8 ≤ length (now space) ⌝ }
+    ensures { λ r. ⌜ Wrote (now (space .entry)) at (47 ∷ digits 7 n) (now (space .exit)) r × (r ≡ at + 8) ⌝ }
+{
+    let end = at + 8;
+    let t = parted(rest(n, 10000000)) + 0x303030303030302F;
+    fill(&mut space[at..end], t);
+    end
+}
+
+// Writes n as w digits, the last eight at once where there are as many.
+pub fn put_digits(space: &mut [u8], at: usize, w: usize, n: u64) -> usize
+    requires { ⌜ at + w ≤ length (now space) ⌝ }
+    ensures { λ r. ⌜ Wrote (now (space .entry)) at (digits w n) (now (space .exit)) r × (r ≡ at + w) ⌝ }
+{
+    if w < 8 {
+        return digits::internal::put_digits(space, at, w, n);
+    }
+    let last = digits::internal::put_digits(space, at, w - 8, n / 100000000);
+    put_eight(space, last, n % 100000000)
 }
