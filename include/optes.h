@@ -2,10 +2,10 @@
 //
 // Threads: the library has no state, so every call may run at the same time as any other. While a
 // call runs, nobody else writes the bytes that it reads or touches the space that it writes.
-// Failure: a call that is refused returns the number of the refusal, and a refused write alters
-// nothing. There is no other failure.
-// Pointers: each pointer is followed by its length in bytes. It is not null, also where the length
-// is zero. The space of a write overlaps none of the texts.
+// Failure: a call that is refused returns the number of the refusal and alters nothing. There is no
+// other failure.
+// Pointers: each pointer is followed by how many bytes or numbers it points to. It is not null, also
+// where they are none. A space that a call writes overlaps nothing that the call reads.
 #ifndef OPTES_H
 #define OPTES_H
 
@@ -17,7 +17,7 @@
 #define OPTES_OK 0
 #define OPTES_UNREADABLE 12 // The message is not readable as a 6G1.
 #define OPTES_UNFIT 17      // A number is too wide, a text not of its length, or the identifier malformed.
-#define OPTES_NO_ROOM 18    // The space is under OPTES_6G1_BYTES.
+#define OPTES_NO_ROOM 18    // The space is under OPTES_6G1_BYTES or OPTES_6G1_NUMBERS.
 
 // The numbers of the fields, in their order, and how many they are.
 #define OPTES_6G1_TYPE 0
@@ -53,6 +53,26 @@
 #define OPTES_6G1_RATE_DIGITS 8
 #define OPTES_6G1_AMOUNT_DIGITS 15
 
+// How many numbers optes_6g1_numbers gives, and where they stand. A digit field has two: its number,
+// and 1 where it holds digits only, else 0.
+#define OPTES_6G1_NUMBERS 45
+#define OPTES_6G1_NUMBERS_SENDER 0
+#define OPTES_6G1_NUMBERS_RECIPIENT 2
+#define OPTES_6G1_NUMBERS_CRO 4
+#define OPTES_6G1_NUMBERS_DATE 6
+#define OPTES_6G1_NUMBERS_TIME 8
+#define OPTES_6G1_NUMBERS_CHECK 10
+
+// A place has three: its rate, its amount, and 1 where it is well formed, else 0. The ten places stand
+// one after the other.
+#define OPTES_6G1_NUMBERS_PLACES 12
+#define OPTES_6G1_PLACE_NUMBERS 3
+
+// A text has one: the index in the message of its first byte.
+#define OPTES_6G1_NUMBERS_TYPE 42
+#define OPTES_6G1_NUMBERS_IDENTIFIER 43
+#define OPTES_6G1_NUMBERS_NAME 44
+
 #ifdef __cplusplus
 extern "C" {
 #endif
@@ -83,6 +103,11 @@ uint32_t optes_6g1_rate(const uint8_t *m, size_t n, uint32_t place);
 
 // The amount of a place in eurocents, or 0 where the place is not well formed.
 uint64_t optes_6g1_amount(const uint8_t *m, size_t n, uint32_t place);
+
+// OPTES_OK with the numbers of the message in the first OPTES_6G1_NUMBERS of the space and those past
+// them as they were, else OPTES_UNREADABLE or OPTES_NO_ROOM. A number or place that is not there is 0.
+// It reads a whole message and tests it once, where each call above tests it again.
+uint32_t optes_6g1_numbers(const uint8_t *m, size_t n, uint64_t *numbers, size_t count);
 
 // OPTES_OK with a 6G1 in the first OPTES_6G1_BYTES of the space and the bytes past them as they were,
 // else OPTES_UNFIT or OPTES_NO_ROOM; a rate has 64 bits, so that a wide one is refused and never cut.
@@ -127,29 +152,31 @@ struct optes_application {
 // Reads the n bytes at m: OPTES_OK, or OPTES_UNREADABLE with the application as it was.
 static inline uint32_t optes_application_read(struct optes_application *a, const uint8_t *m, size_t n)
 {
-    uint32_t refusal = optes_6g1_read(m, n);
+    uint64_t numbers[OPTES_6G1_NUMBERS];
+    uint32_t refusal = optes_6g1_numbers(m, n, numbers, OPTES_6G1_NUMBERS);
     if (refusal != OPTES_OK)
         return refusal;
-    a->sender = optes_6g1_number(m, n, OPTES_6G1_SENDER);
-    a->recipient = optes_6g1_number(m, n, OPTES_6G1_RECIPIENT);
-    a->cro = optes_6g1_number(m, n, OPTES_6G1_CRO);
-    a->date = optes_6g1_number(m, n, OPTES_6G1_DATE);
-    a->time = optes_6g1_number(m, n, OPTES_6G1_TIME);
-    a->check = optes_6g1_number(m, n, OPTES_6G1_CHECK);
-    a->has_sender = optes_6g1_has_number(m, n, OPTES_6G1_SENDER);
-    a->has_recipient = optes_6g1_has_number(m, n, OPTES_6G1_RECIPIENT);
-    a->has_cro = optes_6g1_has_number(m, n, OPTES_6G1_CRO);
-    a->has_date = optes_6g1_has_number(m, n, OPTES_6G1_DATE);
-    a->has_time = optes_6g1_has_number(m, n, OPTES_6G1_TIME);
-    a->has_check = optes_6g1_has_number(m, n, OPTES_6G1_CHECK);
+    a->sender = numbers[OPTES_6G1_NUMBERS_SENDER];
+    a->recipient = numbers[OPTES_6G1_NUMBERS_RECIPIENT];
+    a->cro = numbers[OPTES_6G1_NUMBERS_CRO];
+    a->date = numbers[OPTES_6G1_NUMBERS_DATE];
+    a->time = numbers[OPTES_6G1_NUMBERS_TIME];
+    a->check = numbers[OPTES_6G1_NUMBERS_CHECK];
+    a->has_sender = (uint32_t)numbers[OPTES_6G1_NUMBERS_SENDER + 1];
+    a->has_recipient = (uint32_t)numbers[OPTES_6G1_NUMBERS_RECIPIENT + 1];
+    a->has_cro = (uint32_t)numbers[OPTES_6G1_NUMBERS_CRO + 1];
+    a->has_date = (uint32_t)numbers[OPTES_6G1_NUMBERS_DATE + 1];
+    a->has_time = (uint32_t)numbers[OPTES_6G1_NUMBERS_TIME + 1];
+    a->has_check = (uint32_t)numbers[OPTES_6G1_NUMBERS_CHECK + 1];
     for (uint32_t k = 0; k < OPTES_6G1_PLACES; k++) {
-        a->places[k].rate = optes_6g1_rate(m, n, k);
-        a->places[k].amount = optes_6g1_amount(m, n, k);
-        a->places[k].well_formed = optes_6g1_has_place(m, n, k);
+        const uint64_t *place = numbers + OPTES_6G1_NUMBERS_PLACES + OPTES_6G1_PLACE_NUMBERS * k;
+        a->places[k].rate = place[0];
+        a->places[k].amount = place[1];
+        a->places[k].well_formed = (uint32_t)place[2];
     }
-    memcpy(a->type, m + optes_6g1_start(m, n, OPTES_6G1_TYPE), OPTES_6G1_TYPE_BYTES);
-    memcpy(a->identifier, m + optes_6g1_start(m, n, OPTES_6G1_IDENTIFIER), OPTES_6G1_IDENTIFIER_BYTES);
-    memcpy(a->name, m + optes_6g1_start(m, n, OPTES_6G1_NAME), OPTES_6G1_NAME_BYTES);
+    memcpy(a->type, m + numbers[OPTES_6G1_NUMBERS_TYPE], OPTES_6G1_TYPE_BYTES);
+    memcpy(a->identifier, m + numbers[OPTES_6G1_NUMBERS_IDENTIFIER], OPTES_6G1_IDENTIFIER_BYTES);
+    memcpy(a->name, m + numbers[OPTES_6G1_NUMBERS_NAME], OPTES_6G1_NAME_BYTES);
     return OPTES_OK;
 }
 

@@ -1,2 +1,3 @@
 pub mod Interface
 pub mod Rates
+pub mod Parts

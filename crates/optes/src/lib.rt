@@ -1,8 +1,10 @@
 // The 6G1 for a host in C: numbers and byte slices, and nothing else. Whether there is something to
 // ask for is asked by a call of its own, so that no answer stands for two things.
+mod numbers;
 mod reading;
 mod writing;
 
+pub use numbers::optes_6g1_numbers;
 pub use reading::optes_6g1_amount;
 pub use reading::optes_6g1_has_field;
 pub use reading::optes_6g1_has_number;

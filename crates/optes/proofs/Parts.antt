@@ -1,0 +1,210 @@
+-- Laws of a 6G1 as one list of numbers: each field of a readable 6G1 stands where the layout puts it. Assumes nothing.
+use mathlib.Core.Path.{_≡_, refl, sym, ap, ap₂, _∙_}
+use mathlib.Core.Bool.{Bool, true, false, or-false}
+use mathlib.Core.List.{List, [], _∷_, _++_}
+use mathlib.Core.Option.{none, some}
+use Prim.Native.Nat.{ℕ, zero, suc, _+_, _*_, _-_, _≤_, _<_}
+use mir.Val.{boolByte}
+use native.Mathlib.Nat.{not-suc-le-zero, le-of-suc-le-suc}
+use native.Mathlib.Numerals.{add-one}
+use native.Mathlib.Omega.{arith}
+use lib.Dec.{eqb, ltb, lit<}
+use lib.ListN.{length, take, drop, getD, set, length-set}
+use lib.Seq.{drop-drop, take-take}
+use borrow.Author.Tests.{eqb-true, lt-ltb, le-ltb}
+use Rattle.laws.proofs.Tests.{and-left, and-right}
+use Rattle.output.specs.Output.{Wrote}
+use Rattle.output.proofs.Output.{then, said, one-byte, from-start}
+use Rattle.digits.specs.declared.Digits.{Digits}
+use Rattle.digits.specs.Decimal.{digitsOf, isNumber, numberIn}
+use Rattle.layout.specs.Fields.{Entry, oneOf, lengthAt, starts, readable, offset, content}
+use Rattle.layout.proofs.Fields.{starts-length, offset-within, content-at}
+use Rattle.layout.proofs.ReturnTrip.{whole-of}
+use Rattle.places.specs.declared.Place.{Place}
+use Rattle.places.specs.Bids.{placeOf}
+use Rattle.envelope.specs.declared.application.Field.the-variants.{Bids}
+use Rattle.envelope.specs.declared.application.Fields.{Fields}
+use Rattle.envelope.specs.Refusals.{firstHolding}
+use Rattle.envelope.specs.Application.{one, layout6G1, bytesOf, fieldsOf}
+use Rattle.optes.specs.Interface.{flag, hasField, startOf, fieldDigits, placeNumbered, placeAt}
+use Rattle.optes.specs.Numbers.{digitNumbers, placeNumbers, placesNumbers, textStarts, numbersOf, numbersRead}
+use Rattle.optes.proofs.Interface.{fields-read, digits-there, place-there}
+
+-- a layout whose fields have one length each, from their tags and lengths
+unfoldable fixed : List (ℕ × ℕ) → List Entry
+fixed [] = []
+fixed (f ∷ fs) = one (f .0) (f .1) ∷ fixed fs
+
+-- how many bytes its fields before the k-th take
+unfoldable before : ℕ → List (ℕ × ℕ) → ℕ
+before zero fs = 0
+before (suc k) [] = 0
+before (suc k) (f ∷ fs) = 3 + f .1 + before k fs
+
+-- the length of its k-th field
+abbrev width : ℕ → List (ℕ × ℕ) → ℕ
+width k fs = getD fs k (0, 0) .1
+
+first-length : (f : ℕ × ℕ) (fs : List (ℕ × ℕ)) (m : List ℕ) → readable (fixed (f ∷ fs)) m ≡ true → lengthAt m ≡ f .1
+unfolding readable fixed oneOf
+first-length f fs m h =
+    let e = one (f .0) (f .1) in
+    let l = starts-length e m (and-left (starts e m) (readable (fixed fs) (drop (3 + lengthAt m) m)) h) in
+    eqb-true (lengthAt m) (f .1) (sym (or-false (eqb (lengthAt m) (f .1))) ∙ l)
+
+-- where the k-th field stands, and the length that its head gives
+stands : (fs : List (ℕ × ℕ)) (m : List ℕ) → readable (fixed fs) m ≡ true → (k : ℕ) → k < length fs → (offset k m ≡ before k fs) × (lengthAt (drop (offset k m) m) ≡ width k fs)
+unfolding readable fixed before offset
+stands [] m h k l = absurd (not-suc-le-zero l)
+stands (f ∷ fs) m h zero l = (refl, first-length f fs m h)
+stands (f ∷ fs) m h (suc k) l =
+    let e = one (f .0) (f .1) in
+    let rest = drop (3 + lengthAt m) m in
+    let n = first-length f fs m h in
+    let s = stands fs rest (and-right (starts e m) (readable (fixed fs) rest) h) k (le-of-suc-le-suc l) in
+    (ap₂ (λ (x y : ℕ). 3 + x + y) n (s .0), ap lengthAt (sym (drop-drop (offset k rest) (3 + lengthAt m) m)) ∙ s .1)
+
+-- the layout of a 6G1
+abbrev fields6G1 : List (ℕ × ℕ)
+fields6G1 =
+    (0x01, 3)
+    ∷ (0x04, 5)
+    ∷ (0x05, 5)
+    ∷ (0x02, 11)
+    ∷ (0x31, 8)
+    ∷ (0x60, 6)
+    ∷ (0x10, 5)
+    ∷ (0x70, 11)
+    ∷ (0x76, 240)
+    ∷ (0x7f, 15)
+    ∷ []
+
+module _ (m : List ℕ) (h : readable layout6G1 m ≡ true) where
+  at-fixed : (k : ℕ) → k < 10 → (offset k m ≡ before k fields6G1) × (lengthAt (drop (offset k m) m) ≡ width k fields6G1)
+  unfolding layout6G1 fixed
+  at-fixed k l = stands fields6G1 m h k l
+
+  pub all-bytes : 339 ≤ length m
+  unfolding layout6G1 before
+  all-bytes =
+      let s = at-fixed 9 (lit< tt) in
+      let w = offset-within 9 m (offset 9 m) (whole-of layout6G1 m h 9 (lit< tt)) refl in
+      omega (arith, s .0, s .1, w)
+
+  -- field k as a part of m at a fixed index
+  part : (k at n : ℕ) → k < 10 → before k fields6G1 ≡ at → width k fields6G1 ≡ n → take (at + 3 + n - (at + 3)) (drop (at + 3) m) ≡ content k m
+  part k at n l b w =
+      let s = at-fixed k l in
+      let a : at ≡ offset k m = sym (s .0 ∙ b) in
+      content-at k m at n a (sym (ap (λ (j : ℕ). lengthAt (drop j m)) a ∙ s .1 ∙ w))
+
+  digits-part : (k at n : ℕ) → 1 ≤ k → k ≤ 6 → before k fields6G1 ≡ at → width k fields6G1 ≡ n → digitsOf (take (at + 3 + n - (at + 3)) (drop (at + 3) m)) ≡ fieldDigits k m
+  digits-part k at n l u b w = ap digitsOf (part k at n (omega arith) b w) ∙ sym (digits-there k m h l u)
+
+  pub sender-part : digitsOf (take 5 (drop 9 m)) ≡ fieldDigits 1 m
+  unfolding before
+  sender-part = digits-part 1 6 5 (omega arith) (omega arith) refl refl
+
+  pub recipient-part : digitsOf (take 5 (drop 17 m)) ≡ fieldDigits 2 m
+  unfolding before
+  recipient-part = digits-part 2 14 5 (omega arith) (omega arith) refl refl
+
+  pub cro-part : digitsOf (take 11 (drop 25 m)) ≡ fieldDigits 3 m
+  unfolding before
+  cro-part = digits-part 3 22 11 (omega arith) (omega arith) refl refl
+
+  pub date-part : digitsOf (take 8 (drop 39 m)) ≡ fieldDigits 4 m
+  unfolding before
+  date-part = digits-part 4 36 8 (omega arith) (omega arith) refl refl
+
+  pub time-part : digitsOf (take 6 (drop 50 m)) ≡ fieldDigits 5 m
+  unfolding before
+  time-part = digits-part 5 47 6 (omega arith) (omega arith) refl refl
+
+  pub check-part : digitsOf (take 5 (drop 59 m)) ≡ fieldDigits 6 m
+  unfolding before
+  check-part = digits-part 6 56 5 (omega arith) (omega arith) refl refl
+
+  -- where the texts start
+  start-is : (k at : ℕ) → k < 10 → before k fields6G1 ≡ at → at + 3 ≡ startOf k m
+  unfolding startOf hasField
+  start-is k at l b = rw (h, lt-ltb k 10 l, at-fixed k l .0, b)
+
+  pub starts-are : (3 ∷ 67 ∷ 324 ∷ []) ≡ textStarts m
+  unfolding textStarts before
+  starts-are =
+      let type = start-is 0 0 (lit< tt) refl in
+      let identifier = start-is 7 64 (lit< tt) refl in
+      let name = start-is 9 321 (lit< tt) refl in
+      λ i. type i ∷ identifier i ∷ name i ∷ []
+
+-- a part of a part
+part-of-part : (a n w : ℕ) (s : List ℕ) → a + n ≤ w → take n (drop a (take w s)) ≡ take n (drop a s)
+part-of-part zero n w s h = take-take n w s (omega arith)
+part-of-part (suc a) n zero s h = absurd (let z : ⊥ = omega arith in z)
+part-of-part (suc a) n (suc w) [] h = refl
+part-of-part (suc a) n (suc w) (b ∷ s) h = part-of-part a n w s (omega arith)
+
+-- place k as a part of m
+pub place-part : (m : List ℕ) → readable layout6G1 m ≡ true → (k : ℕ) → k < 10 → placeOf (take 24 (drop (81 + 24 * k) m)) ≡ placeAt k m
+unfolding placeAt fieldsOf before
+place-part m h k l =
+    let bids : take 240 (drop 81 m) ≡ bytesOf Bids m = part m h 8 78 240 (lit< tt) refl refl in
+    let inside = part-of-part (24 * k) 24 240 (drop 81 m) (omega arith) ∙ ap (take 24) (drop-drop (24 * k) 81 m) in
+    ap placeOf (sym inside ∙ ap (λ (s : List ℕ). take 24 (drop (24 * k) s)) bids)
+    ∙ sym (ap (λ (f : Fields). placeNumbered k (f .places)) (fields-read m h) ∙ place-there k (bytesOf Bids m) l)
+
+-- one more place
+pub places-more : (k : ℕ) (m : List ℕ) → placesNumbers k m ++ placeNumbers (placeAt k m) ≡ placesNumbers (k + 1) m
+unfolding placesNumbers
+places-more k m = rw add-one
+
+-- a bool as a number
+flag-is : (b : Bool) → boolByte b ≡ flag b
+flag-is true = refl
+flag-is false = refl
+
+-- stores one after the other
+one-number : (d : List ℕ) (at a : ℕ) → at < length d → Wrote d at (a ∷ []) (set d at a) (at + 1)
+one-number d at a h = record { bytes = one-byte d at a h; past = omega arith }
+
+two-numbers : (d : List ℕ) (at a b : ℕ) → at + 2 ≤ length d → Wrote d at (a ∷ b ∷ []) (set (set d at a) (at + 1) b) (at + 1 + 1)
+two-numbers d at a b h = then (omega arith) (one-number d at a (omega arith)) (one-number (set d at a) (at + 1) b (simp length-set (omega arith)))
+
+three-numbers : (d : List ℕ) (at a b c : ℕ) → at + 3 ≤ length d → Wrote d at (a ∷ b ∷ c ∷ []) (set (set (set d at a) (at + 1) b) (at + 2) c) (at + 3)
+three-numbers d at a b c h =
+    let e : at + 1 + 1 ≡ at + 2 = omega arith in
+    let w = then {e₂ = at + 2 + 1} (omega arith) (rw e at (two-numbers d at a b (omega arith))) (one-number (set (set d at a) (at + 1) b) (at + 2) c (simp (length-set, length-set) (omega arith))) in
+    record { bytes = w .bytes; past = omega arith }
+
+pub wrote-digits : (d : List ℕ) (at : ℕ) (x : Digits) → at + 2 ≤ length d → Wrote d at (digitNumbers x) (set (set d at (numberIn x)) (at + 1) (boolByte (isNumber x))) (at + 2)
+unfolding digitNumbers
+wrote-digits d at x h =
+    let w = two-numbers d at (numberIn x) (flag (isNumber x)) h in
+    rw (flag-is (isNumber x)) (record { bytes = w .bytes; past = omega arith })
+
+pub wrote-place : (d : List ℕ) (at : ℕ) (p : Place) → at + 3 ≤ length d → Wrote d at (placeNumbers p) (set (set (set d at (p .rate .0)) (at + 1) (p .amount .0)) (at + 2) (boolByte (p .formed))) (at + 3)
+unfolding placeNumbers
+wrote-place d at p h = rw (flag-is (p .formed)) (three-numbers d at (p .rate .0) (p .amount .0) (flag (p .formed)) h)
+
+pub wrote-starts : (m d : List ℕ) (at : ℕ) → readable layout6G1 m ≡ true → at + 3 ≤ length d → Wrote d at (textStarts m) (set (set (set d at 3) (at + 1) 67) (at + 2) 324) (at + 3)
+wrote-starts m d at h l = said (starts-are m h) (three-numbers d at 3 67 324 l)
+
+-- a write from the start and one after it
+pub and-then : {d s t d₁ d₂ : List ℕ} {e₁ e₂ : ℕ} → Wrote d 0 s d₁ e₁ → Wrote d₁ e₁ t d₂ e₂ → Wrote d 0 (s ++ t) d₂ e₂
+and-then v w = then (omega arith) v w
+
+-- what the whole call gives
+pub numbers-unreadable : (m d : List ℕ) → readable layout6G1 m ≡ false → numbersRead m d ≡ (some 12, d)
+unfolding numbersRead firstHolding
+numbers-unreadable m d h = rw h
+
+pub numbers-short : (m d : List ℕ) → readable layout6G1 m ≡ true → length d < 45 → numbersRead m d ≡ (some 18, d)
+unfolding numbersRead firstHolding
+numbers-short m d h l = rw (h, lt-ltb (length d) 45 l)
+
+pub numbers-read : (m d after : List ℕ) (end : ℕ) → readable layout6G1 m ≡ true → 45 ≤ length d → Wrote d 0 (numbersOf m) after end → end ≡ 45 → numbersRead m d ≡ (none, after)
+unfolding numbersRead firstHolding
+numbers-read m d after end h l w e =
+    let n : length (numbersOf m) ≡ 45 = let p = w .past in omega arith in
+    rw (h, le-ltb (length d) 45 l, w .bytes, from-start d (numbersOf m), n)
