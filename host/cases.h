@@ -6,6 +6,7 @@
 
 void reading_cases(const struct buffers *b);
 void number_cases(const struct buffers *b);
+void whole_cases(const struct buffers *b);
 void writing_cases(const struct buffers *b);
 void application_cases(const struct buffers *b);
 

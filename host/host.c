@@ -21,6 +21,7 @@ static void constants(void)
     CHECK(OPTES_6G1_SENDER_DIGITS == 5 && OPTES_6G1_RECIPIENT_DIGITS == 5 && OPTES_6G1_CRO_DIGITS == 11);
     CHECK(OPTES_6G1_DATE_DIGITS == 8 && OPTES_6G1_TIME_DIGITS == 6 && OPTES_6G1_CHECK_DIGITS == 5);
     CHECK(OPTES_6G1_RATE_DIGITS == 8 && OPTES_6G1_AMOUNT_DIGITS == 15);
+    CHECK(OPTES_6G1_NUMBERS == 45 && OPTES_6G1_PLACE_NUMBERS == 3);
 }
 
 // One application written and read back, as a maker would.
@@ -54,6 +55,7 @@ static void cases(enum guard guard)
     CHECK(guarded_stops(&b.space));
     reading_cases(&b);
     number_cases(&b);
+    whole_cases(&b);
     writing_cases(&b);
     application_cases(&b);
     buffers_close(&b);
