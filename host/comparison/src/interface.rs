@@ -17,6 +17,7 @@ pub struct Fields<'a> {
 /// The calls; each takes the raw bytes of a message.
 pub trait Interface {
     fn read(message: &[u8]) -> u32;
+    fn numbers(message: &[u8], space: &mut [u64]) -> u32;
     fn has_field(message: &[u8], field: u32) -> u32;
     fn start(message: &[u8], field: u32) -> usize;
     fn length(message: &[u8], field: u32) -> usize;
@@ -47,6 +48,11 @@ impl Interface for Independent {
     #[inline(always)]
     fn read(message: &[u8]) -> u32 {
         interface::read(message)
+    }
+
+    #[inline(always)]
+    fn numbers(message: &[u8], space: &mut [u64]) -> u32 {
+        interface::numbers(message, space)
     }
 
     #[inline(always)]

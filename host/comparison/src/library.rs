@@ -8,6 +8,7 @@ use crate::interface::{with_numbers, Fields, Interface};
 
 extern "C" {
     fn optes_6g1_read(m: *const u8, n: usize) -> u32;
+    fn optes_6g1_numbers(m: *const u8, n: usize, numbers: *mut u64, count: usize) -> u32;
     fn optes_6g1_has_field(m: *const u8, n: usize, field: u32) -> u32;
     fn optes_6g1_start(m: *const u8, n: usize, field: u32) -> usize;
     fn optes_6g1_length(m: *const u8, n: usize, field: u32) -> usize;
@@ -61,6 +62,17 @@ impl Interface for Library {
     #[inline(always)]
     fn read(message: &[u8]) -> u32 {
         unsafe { optes_6g1_read(message.as_ptr(), message.len()) }
+    }
+
+    #[inline(always)]
+    #[rustfmt::skip] // Each pointer stands beside its length.
+    fn numbers(message: &[u8], space: &mut [u64]) -> u32 {
+        unsafe {
+            optes_6g1_numbers(
+                message.as_ptr(), message.len(),
+                space.as_mut_ptr(), space.len()
+            )
+        }
     }
 
     #[inline(always)]

@@ -7,7 +7,9 @@ mod reading;
 mod words;
 mod writing;
 
-pub use reading::{amount, has_field, has_number, has_place, length, number, rate, read, start};
+pub use reading::{
+    amount, has_field, has_number, has_place, length, number, numbers, rate, read, start,
+};
 pub use writing::write;
 
 /// What a call returns: done, or the number of its refusal.
@@ -15,3 +17,6 @@ pub const OK: u32 = 0;
 pub const UNREADABLE: u32 = 12;
 pub const UNFIT: u32 = 17;
 pub const NO_ROOM: u32 = 18;
+
+/// How many numbers a whole message is read into.
+pub const NUMBERS: usize = 45;

@@ -41,6 +41,35 @@ fn assert_same(message: &[u8]) {
         assert_eq!(calls::rate(message, number), place.map_or(0, |bid| bid.rate.0));
         assert_eq!(calls::amount(message, number), place.map_or(0, |bid| bid.amount.0));
     }
+    for length in [0, 44, 45, 46, 50] {
+        assert_same_numbers(message, length);
+    }
+}
+
+/// Holds the numbers of a whole message to those of the single calls.
+fn assert_same_numbers(message: &[u8], length: usize) {
+    let mut space = vec![7; length];
+    let answer = calls::numbers(message, &mut space);
+    let mut expected = Vec::new();
+    for field in 1..7 {
+        expected.push(calls::number(message, field));
+        expected.push(u64::from(calls::has_number(message, field)));
+    }
+    for place in 0..PLACES as u32 {
+        expected.push(u64::from(calls::rate(message, place)));
+        expected.push(calls::amount(message, place));
+        expected.push(u64::from(calls::has_place(message, place)));
+    }
+    expected.extend([0, 7, 9].map(|field| calls::start(message, field) as u64));
+    assert_eq!(expected.len(), calls::NUMBERS);
+    match (calls::read(message), length < calls::NUMBERS) {
+        (12, _) => assert_eq!((answer, space), (12, vec![7; length])),
+        (_, true) => assert_eq!((answer, space), (18, vec![7; length])),
+        (_, false) => {
+            expected.resize(length, 7);
+            assert_eq!((answer, space), (0, expected));
+        }
+    }
 }
 
 #[test]

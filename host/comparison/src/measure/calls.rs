@@ -7,6 +7,7 @@ use crate::measure::timing::alternate;
 use crate::messages::generate::Parts;
 use crate::random::Random;
 use independent::application::{LENGTH, PLACES};
+use independent::interface::NUMBERS;
 use std::convert::Infallible;
 use std::hint::black_box;
 
@@ -35,8 +36,29 @@ struct Place {
 }
 
 impl Application {
-    /// Reads a message by the calls of `optes_application_read`, in their order.
+    /// Reads a message as `optes_application_read` does, by one call.
     fn read<I: Interface>(&mut self, message: &[u8]) -> u32 {
+        let mut numbers = [0; NUMBERS];
+        let refusal = I::numbers(message, &mut numbers);
+        if refusal != 0 {
+            return refusal;
+        }
+        for (field, pair) in numbers[..12].chunks_exact(2).enumerate() {
+            self.numbers[field] = pair[0];
+            self.has_number[field] = pair[1] as u32;
+        }
+        for (place, triple) in self.places.iter_mut().zip(numbers[12..42].chunks_exact(3)) {
+            *place = Place { rate: triple[0], amount: triple[1], well_formed: triple[2] as u32 };
+        }
+        let [kind, identifier, name] = [42, 43, 44].map(|index: usize| numbers[index] as usize);
+        self.kind.copy_from_slice(&message[kind..][..3]);
+        self.identifier.copy_from_slice(&message[identifier..][..11]);
+        self.name.copy_from_slice(&message[name..][..15]);
+        0
+    }
+
+    /// Reads a message by single calls, one for each thing that is asked of it.
+    fn read_singly<I: Interface>(&mut self, message: &[u8]) -> u32 {
         let refusal = I::read(message);
         if refusal != 0 {
             return refusal;
@@ -64,6 +86,22 @@ fn read_all<I: Interface>(messages: &[Vec<u8>]) {
         let mut application = Application::default();
         black_box(application.read::<I>(black_box(message)));
         black_box(&application);
+    }
+}
+
+fn read_all_singly<I: Interface>(messages: &[Vec<u8>]) {
+    for message in messages {
+        let mut application = Application::default();
+        black_box(application.read_singly::<I>(black_box(message)));
+        black_box(&application);
+    }
+}
+
+fn numbers_at_once<I: Interface>(messages: &[Vec<u8>]) {
+    let mut numbers = [0; NUMBERS];
+    for message in messages {
+        black_box(I::numbers(black_box(message), &mut numbers));
+        black_box(&numbers);
     }
 }
 
@@ -110,10 +148,15 @@ fn measure<T: ?Sized>(
 fn agree(messages: &[Vec<u8>], inputs: &[Fields]) -> bool {
     messages.iter().zip(inputs).all(|(message, fields)| {
         let (mut library, mut independent) = (Application::default(), Application::default());
+        let mut singly = Application::default();
         let (mut written, mut expected) = ([0; LENGTH], [1; LENGTH]);
         library.read::<Library>(message) == 0
             && independent.read::<Independent>(message) == 0
             && library == independent
+            && singly.read_singly::<Library>(message) == 0
+            && library == singly
+            && singly.read_singly::<Independent>(message) == 0
+            && library == singly
             && Library::write(fields, &mut written) == 0
             && Independent::write(fields, &mut expected) == 0
             && written == expected
@@ -131,8 +174,14 @@ pub fn measure_calls() -> Result<(), String> {
         return Err("the library and the independent calls differ".to_string());
     }
     let m = &messages[..];
-    let all = "a 6G1 read as optes_application_read does, 46 calls";
-    measure(all, m, (30, MESSAGES), read_all::<Library>, read_all::<Independent>);
+    let all = "a 6G1 read as optes_application_read does";
+    measure(all, m, (300, MESSAGES), read_all::<Library>, read_all::<Independent>);
+    let at_once = "optes_6g1_numbers alone";
+    let counts = (300, MESSAGES);
+    measure(at_once, m, counts, numbers_at_once::<Library>, numbers_at_once::<Independent>);
+    let singly = "a 6G1 read by 46 single calls";
+    let counts = (30, MESSAGES);
+    measure(singly, m, counts, read_all_singly::<Library>, read_all_singly::<Independent>);
     let alone = "optes_6g1_read alone";
     measure(alone, m, (1000, MESSAGES), read_alone::<Library>, read_alone::<Independent>);
     let number = "optes_6g1_number alone";

@@ -5,6 +5,7 @@ use crate::library::Library;
 use crate::messages::difference::{same, Difference};
 use crate::messages::tally::{Outcome, Tally, DIGIT_FIELDS};
 use independent::application::{is_identifier, PLACES};
+use independent::interface::NUMBERS as NUMBERS_READ;
 
 const TYPE: u32 = 0;
 const IDENTIFIER: u32 = 7;
@@ -15,9 +16,17 @@ const NAME: u32 = 9;
 const ASKED: [u32; 16] =
     [0, 1, 2, 3, 4, 5, 6, 7, 8, 9, 10, 11, 0x103, 0x1_0003, 0x8000_0003, u32::MAX];
 
+/// Spaces for the numbers of a message: short ones, one that just holds them, and longer ones.
+const SPACES: [usize; 6] = [0, 1, NUMBERS_READ - 1, NUMBERS_READ, NUMBERS_READ + 1, 64];
+
 /// Compares every call that reads the message.
 pub fn compare(message: &[u8]) -> Result<(), Difference> {
     same(Library::read(message), Independent::read(message), || "read".to_string())?;
+    SPACES.into_iter().try_for_each(|length| {
+        same(numbers::<Library>(message, length), numbers::<Independent>(message, length), || {
+            format!("numbers, into a space of {length}")
+        })
+    })?;
     ASKED.into_iter().try_for_each(|number| {
         same(
             field_answers::<Library>(message, number),
@@ -30,6 +39,13 @@ pub fn compare(message: &[u8]) -> Result<(), Difference> {
             || format!("has_place, rate, amount of place {number}"),
         )
     })
+}
+
+/// The answer to reading all numbers, and the whole space after it with numbers on either side.
+fn numbers<I: Interface>(message: &[u8], length: usize) -> (u32, Vec<u64>) {
+    let mut around: Vec<u64> =
+        (1..).map(|index| index * 0x0123_4567_89ab_cdef).take(length + 4).collect();
+    (I::numbers(message, &mut around[2..length + 2]), around)
 }
 
 fn field_answers<I: Interface>(message: &[u8], field: u32) -> (u32, usize, usize, u32, u64) {

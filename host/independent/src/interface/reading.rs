@@ -1,7 +1,7 @@
 //! The calls that read.
 
 use super::words;
-use super::{OK, UNREADABLE};
+use super::{NO_ROOM, NUMBERS, OK, UNREADABLE};
 use crate::application::{Field, LAYOUT, LENGTH, PLACES, PLACE_BYTES, STARTS};
 use crate::envelope::{self, HEADER};
 
@@ -83,6 +83,29 @@ fn place_of(message: &[u8; LENGTH], place: u32) -> Option<(u32, u64)> {
     }
     let amount = two_words(high, low, 100_000_000)?;
     Some((words::number(rate) as u32, amount))
+}
+
+/// 0 with the numbers of the message in the first of the space, else 12, or 18 where it is short.
+#[inline(never)]
+pub fn numbers(message: &[u8], space: &mut [u64]) -> u32 {
+    let Some(message) = readable(message) else {
+        return UNREADABLE;
+    };
+    let Some(numbers) = space.first_chunk_mut::<NUMBERS>() else {
+        return NO_ROOM;
+    };
+    let fields: [_; 6] = std::array::from_fn(|index| number_of(message, index as u32 + 1));
+    for (pair, number) in numbers[..12].chunks_exact_mut(2).zip(fields) {
+        pair.copy_from_slice(&[number.unwrap_or(0), u64::from(number.is_some())]);
+    }
+    for (triple, index) in numbers[12..42].chunks_exact_mut(3).zip(0..) {
+        let place = place_of(message, index);
+        let (rate, amount) = place.unwrap_or((0, 0));
+        triple.copy_from_slice(&[u64::from(rate), amount, u64::from(place.is_some())]);
+    }
+    let texts = [Field::Type, Field::Identifier, Field::Name];
+    numbers[42..].copy_from_slice(&texts.map(|field| STARTS[field as usize] as u64));
+    OK
 }
 
 /// 0 where the message is readable as a 6G1, else 12.
