@@ -78,10 +78,13 @@ pub enum WriteAnswer {
     NoRoom,
 }
 
-// Whether m has the fields of a 6G1, in order, with their lengths, and nothing after them.
+// Whether m has the fields of a 6G1, in order, with their lengths, and nothing after them. Its length is tested first, so that the compiler knows it in every other test.
 pub fn is_6g1(m: &[u8]) -> bool
     ensures { λ r. ⌜ r ≡ readable layout6G1 (now (m .entry)) ⌝ }
 {
+    if m.len() != 339 {
+        return false;
+    }
     layout::readable(
         b"\x01\x03\x03\x04\x05\x05\x05\x05\x05\x02\x0b\x0b\x31\x08\x08\x60\x06\x06\x10\x05\x05\x70\x0b\x0b\x76\xf0\xf0\x7f\x0f\x0f",
         m,

@@ -26,14 +26,10 @@ use Rattle.envelope.specs.declared.application.Field.the-variants.{Bids}
 use Rattle.envelope.specs.declared.application.Fields.{Fields}
 use Rattle.envelope.specs.Refusals.{firstHolding}
 use Rattle.envelope.specs.Application.{one, layout6G1, bytesOf, fieldsOf}
+use Rattle.envelope.proofs.Fields6G1.{fixed, first-length, fields6G1}
 use Rattle.optes.specs.Interface.{flag, hasField, startOf, fieldDigits, placeNumbered, placeAt}
 use Rattle.optes.specs.Numbers.{digitNumbers, placeNumbers, placesNumbers, textStarts, numbersOf, numbersRead}
 use Rattle.optes.proofs.Interface.{fields-read, digits-there, place-there}
-
--- a layout whose fields have one length each, from their tags and lengths
-unfoldable fixed : List (ℕ × ℕ) → List Entry
-fixed [] = []
-fixed (f ∷ fs) = one (f .0) (f .1) ∷ fixed fs
 
 -- how many bytes its fields before the k-th take
 unfoldable before : ℕ → List (ℕ × ℕ) → ℕ
@@ -44,13 +40,6 @@ before (suc k) (f ∷ fs) = 3 + f .1 + before k fs
 -- the length of its k-th field
 abbrev width : ℕ → List (ℕ × ℕ) → ℕ
 width k fs = getD fs k (0, 0) .1
-
-first-length : (f : ℕ × ℕ) (fs : List (ℕ × ℕ)) (m : List ℕ) → readable (fixed (f ∷ fs)) m ≡ true → lengthAt m ≡ f .1
-unfolding readable fixed oneOf
-first-length f fs m h =
-    let e = one (f .0) (f .1) in
-    let l = starts-length e m (and-left (starts e m) (readable (fixed fs) (drop (3 + lengthAt m) m)) h) in
-    eqb-true (lengthAt m) (f .1) (sym (or-false (eqb (lengthAt m) (f .1))) ∙ l)
 
 -- where the k-th field stands, and the length that its head gives
 stands : (fs : List (ℕ × ℕ)) (m : List ℕ) → readable (fixed fs) m ≡ true → (k : ℕ) → k < length fs → (offset k m ≡ before k fs) × (lengthAt (drop (offset k m) m) ≡ width k fs)
@@ -63,21 +52,6 @@ stands (f ∷ fs) m h (suc k) l =
     let n = first-length f fs m h in
     let s = stands fs rest (and-right (starts e m) (readable (fixed fs) rest) h) k (le-of-suc-le-suc l) in
     (ap₂ (λ (x y : ℕ). 3 + x + y) n (s .0), ap lengthAt (sym (drop-drop (offset k rest) (3 + lengthAt m) m)) ∙ s .1)
-
--- the layout of a 6G1
-abbrev fields6G1 : List (ℕ × ℕ)
-fields6G1 =
-    (0x01, 3)
-    ∷ (0x04, 5)
-    ∷ (0x05, 5)
-    ∷ (0x02, 11)
-    ∷ (0x31, 8)
-    ∷ (0x60, 6)
-    ∷ (0x10, 5)
-    ∷ (0x70, 11)
-    ∷ (0x76, 240)
-    ∷ (0x7f, 15)
-    ∷ []
 
 module _ (m : List ℕ) (h : readable layout6G1 m ≡ true) where
   at-fixed : (k : ℕ) → k < 10 → (offset k m ≡ before k fields6G1) × (lengthAt (drop (offset k m) m) ≡ width k fields6G1)
