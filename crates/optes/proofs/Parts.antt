@@ -1,6 +1,6 @@
 -- Laws of a 6G1 as one list of numbers: each field of a readable 6G1 stands where the layout puts it. Assumes nothing.
 use mathlib.Core.Path.{_≡_, refl, sym, ap, ap₂, _∙_}
-use mathlib.Core.Bool.{Bool, true, false, or-false}
+use mathlib.Core.Bool.{Bool, true, false}
 use mathlib.Core.List.{List, [], _∷_, _++_}
 use mathlib.Core.Option.{none, some}
 use Prim.Native.Nat.{ℕ, zero, suc, _+_, _*_, _-_, _≤_, _<_}
@@ -8,17 +8,17 @@ use mir.Val.{boolByte}
 use native.Mathlib.Nat.{not-suc-le-zero, le-of-suc-le-suc}
 use native.Mathlib.Numerals.{add-one}
 use native.Mathlib.Omega.{arith}
-use lib.Dec.{eqb, ltb, lit<}
+use lib.Dec.{lit<}
 use lib.ListN.{length, take, drop, getD, set, length-set}
 use lib.Seq.{drop-drop, take-take}
-use borrow.Author.Tests.{eqb-true, lt-ltb, le-ltb}
-use Rattle.laws.proofs.Tests.{and-left, and-right}
+use borrow.Author.Tests.{lt-ltb, le-ltb}
+use Rattle.laws.proofs.Tests.{and-right}
 use Rattle.output.specs.Output.{Wrote}
 use Rattle.output.proofs.Output.{then, said, one-byte, from-start}
 use Rattle.digits.specs.declared.Digits.{Digits}
 use Rattle.digits.specs.Decimal.{digitsOf, isNumber, numberIn}
-use Rattle.layout.specs.Fields.{Entry, oneOf, lengthAt, starts, readable, offset, content}
-use Rattle.layout.proofs.Fields.{starts-length, offset-within, content-at}
+use Rattle.layout.specs.Fields.{lengthAt, starts, readable, offset, content}
+use Rattle.layout.proofs.Fields.{offset-within, content-at}
 use Rattle.layout.proofs.ReturnTrip.{whole-of}
 use Rattle.places.specs.declared.Place.{Place}
 use Rattle.places.specs.Bids.{placeOf}

@@ -1,5 +1,4 @@
 -- A 6G1 as one list of numbers, for a host in C that asks for all of it by one call (document 01, 'Replies and writing'). Assumes nothing.
-use mathlib.Core.Bool.{Bool}
 use mathlib.Core.List.{List, [], _∷_, _++_}
 use mathlib.Core.Option.{Option}
 use Prim.Native.Nat.{ℕ, zero, suc}

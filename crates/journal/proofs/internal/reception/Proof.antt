@@ -7,16 +7,14 @@ use mathlib.Core.Option.{none}
 use Prim.Native.Nat.{ℕ, _-_}
 use native.Mathlib.Omega.{arith}
 use denote.Ref.{now}
-use lib.ListN.{length, take, drop, replicate, length-drop}
-use lib.Seq.{take-all}
+use lib.ListN.{length, drop}
 use borrow.Author.Tests.{lt-ltb, le-ltb, not-true, not-false}
 use Rattle.output.proofs.Output.{said}
 use Rattle.layout.specs.Fields.{readable}
 use Rattle.envelope.specs.Application.{layout6G1}
 use Rattle.rules.specs.Calls as rules
 use Rattle.errors.specs.Listed.{listed}
-use Rattle.checks.specs.Columns as checks
-use Rattle.log.specs.Steps.{ending, onTender, dateOf, timeOf, receptionIn, answerLine, received, reception}
+use Rattle.log.specs.Steps.{ending, onTender, receptionIn, answerLine, received, reception}
 use Rattle.tender.specs.declared.Received.{Received}
 use Rattle.tender.specs.Viewed as tender
 use Rattle.tender.specs.Viewed.{numberOf, answerOf}

@@ -1,9 +1,9 @@
 -- `reception::internal::judge` meets its contract: a message with errors, one that is held, one that is too late. Assumes nothing.
 use borrow.Author.Needs.{needs}
 use borrow.Author.Tests.{ne-eqb}
-use mathlib.Core.Path.{_≡_, refl, sym, ap, _∙_}
-use mathlib.Core.Bool.{Bool, true, false, cond, not}
-use mathlib.Core.List.{List, [], _∷_, _++_}
+use mathlib.Core.Path.{_≡_, sym, ap, _∙_}
+use mathlib.Core.Bool.{Bool, true, cond, not}
+use mathlib.Core.List.{List, [], _++_}
 use Prim.Native.Nat.{ℕ}
 use native.Mathlib.Omega.{arith}
 use denote.Ref.{now}
@@ -14,14 +14,14 @@ use Rattle.texts.specs.Texts.{ascii}
 use Rattle.rules.specs.Allotment.{Bid}
 use Rattle.rules.specs.Opening.{any}
 use Rattle.rules.specs.Opening as rules
-use Rattle.rules.specs.Receiving.{Reception, Error, Entry, errors, isEmpty, submission, when}
+use Rattle.rules.specs.Receiving.{Reception, Error, errors, isEmpty, submission, when}
 use Rattle.errors.specs.Listed.{table, idcIn, named, listed}
 use Rattle.terms.specs.Viewed as terms
 use Rattle.bids.specs.Columns.{bidsFrom}
 use Rattle.book.specs.Viewed.{viewed, codesIn, soundFrom, replaced}
 use Rattle.book.proofs.Joining.{found-below}
 use Rattle.checks.specs.Columns.{received}
-use Rattle.reception.specs.Submission.{isAt, submitted}
+use Rattle.reception.specs.Submission.{isAt}
 use Rattle.reception.proofs.Admission.{admitted-is}
 use Rattle.reception.proofs.Judging.{judged-found, judged-absent}
 use Rattle.reception.proofs.Listing.{listed-none, listed-some}

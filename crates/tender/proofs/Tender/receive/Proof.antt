@@ -2,14 +2,14 @@
 use borrow.Author.Needs.{needs}
 use borrow.Author.Tests.{ne-eqb}
 use mathlib.Core.Path.{_≡_, refl, sym, ap, subst, _∙_}
-use mathlib.Core.Bool.{Bool, true, false, not, _&&_}
+use mathlib.Core.Bool.{false, not, _&&_}
 use mathlib.Core.List.{List}
 use mathlib.Core.Option.{Option, none}
 use Prim.Native.Nat.{ℕ, _<_}
 use native.Mathlib.Omega.{arith}
 use denote.Ref.{now}
 use lib.Dec.{eqb}
-use Rattle.rules.specs.Receiving.{Reception, Entry}
+use Rattle.rules.specs.Receiving.{Entry}
 use Rattle.rules.specs.Calls.{answerUnless, receive}
 use Rattle.errors.specs.Listed.{listed}
 use Rattle.checks.specs.Columns.{received}
@@ -22,9 +22,6 @@ use Rattle.tender.proofs.Ladders.{none-of}
 use Rattle.tender.proofs.Answering.{receives-refused, receives-answered}
 use Rattle.tender.proofs.Tender.receive.Statement.{statement}
 use Rattle.tender.proofs.Tender.receive.Tie as tie
-
-receptionAt : tie.Start → Reception
-receptionAt c = received (now (c .args .m)) (c .args .date) (c .args .time) (now (c .args .space))
 
 outcome-of-requires : tie.Need-outcome-of-requires
 outcome-of-requires c κs = search needs

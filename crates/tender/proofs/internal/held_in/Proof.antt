@@ -1,7 +1,7 @@
 -- `tender::internal::held_in` meets its contract. Assumes nothing.
 use borrow.Author.Needs.{needs}
-use mathlib.Core.Path.{_≡_, refl, sym, ap, _∙_}
-use mathlib.Core.Bool.{Bool, true, false, cond, false≢true}
+use mathlib.Core.Path.{refl, sym, ap, _∙_}
+use mathlib.Core.Bool.{Bool, cond, false≢true}
 use Rattle.bids.specs.Columns.{bidsFrom}
 use Rattle.book.specs.Viewed.{viewed, replaced}
 use Rattle.tender.proofs.internal.held_in.Statement.{statement}

@@ -10,7 +10,6 @@ use lib.ListN.{length}
 use borrow.Author.Tests.{lt-ltb, le-ltb}
 use Rattle.envelope.specs.Refusals.{firstHolding}
 use Rattle.envelope.specs.Application.{unreadable, readRefusal}
-use Rattle.rules.specs.Calls as rules
 use Rattle.rules.specs.Calls.{isRevoked, isOver, clockInvalid, spaceShort, receivingRefused}
 use Rattle.checks.specs.Columns.{received}
 use Rattle.tender.specs.declared.Refusal.the-variants as refusal
