@@ -1,7 +1,8 @@
 -- Laws of the fields of a readable 6G0. Assumes nothing.
 use mathlib.Core.Path.{_≡_, refl}
-use mathlib.Core.Bool.{true}
-use mathlib.Core.List.{List}
+use mathlib.Core.Logic.{_≢_}
+use mathlib.Core.Bool.{true, false}
+use mathlib.Core.List.{List, [], _∷_}
 use Prim.Native.Nat.{ℕ, _≤_}
 use native.Mathlib.Omega.{arith}
 use lib.Dec.{lit<}
@@ -11,6 +12,29 @@ use Rattle.layout.proofs.ReturnTrip.{whole-of, length-fixed}
 use Rattle.envelope.specs.declared.announcement.Field.{Field}
 use Rattle.envelope.specs.declared.announcement.Field.the-variants.{MessageType, Sender, Recipient, Cro, Date, Time, Identifier, TenderType, Characteristics, SpotDate, ForwardDate, Cutoff}
 use Rattle.envelope.specs.Announcement.{layout6G0, position, bytesOf}
+use Rattle.envelope.proofs.Fixed.{fixed, bytesIn, other-length}
+
+-- the layout of a 6G0
+abbrev fields6G0 : List (ℕ × ℕ)
+fields6G0 =
+    (0x01, 3)
+    ∷ (0x04, 5)
+    ∷ (0x05, 5)
+    ∷ (0x02, 11)
+    ∷ (0x31, 8)
+    ∷ (0x60, 6)
+    ∷ (0x70, 11)
+    ∷ (0x71, 18)
+    ∷ (0x72, 100)
+    ∷ (0x73, 8)
+    ∷ (0x74, 8)
+    ∷ (0x75, 6)
+    ∷ []
+
+-- what is not as long is not readable
+pub other-length-6g0 : (m : List ℕ) → length m ≢ 225 → false ≡ readable layout6G0 m
+unfolding layout6G0 fixed bytesIn
+other-length-6g0 m h = other-length fields6G0 m h
 
 -- the length of each field
 abbrev pub width : Field → ℕ

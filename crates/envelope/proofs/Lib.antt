@@ -1,3 +1,4 @@
+pub mod Fixed
 pub mod Fields6G1
 pub mod Writing
 pub mod ReturnTrip

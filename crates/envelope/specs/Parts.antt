@@ -1,46 +1,64 @@
 -- The characteristics by the places of their parts, as the code reads them. Only private contracts cite them. Assumes nothing.
 use mathlib.Core.Bool.{Bool, _&&_}
-use mathlib.Core.List.{List}
+use mathlib.Core.List.{List, [], _∷_}
 use Prim.Native.Nat.{ℕ, _-_}
 use lib.Dec.{eqb}
 use lib.ListN.{take, drop, getD}
-use Rattle.digits.specs.Decimal.{allDigits, digitsOf, numberIn}
+use Rattle.digits.specs.declared.Digits.{Digits}
+use Rattle.digits.specs.Decimal.{digitsOf, isNumber, numberIn}
 use Rattle.places.specs.Bids.{slash}
-use Rattle.envelope.specs.declared.announcement.Amounts.{Amounts}
+use Rattle.envelope.specs.declared.announcement.Numbers.{Numbers}
 
-abbrev pub part : ℕ → ℕ → List ℕ → List ℕ
-part from to s = take (to - from) (drop from s)
+-- what a part holds
+abbrev pub part : ℕ → ℕ → List ℕ → Digits
+part from to s = digitsOf (take (to - from) (drop from s))
 
-unfoldable pub partNumber : ℕ → ℕ → List ℕ → ℕ
-partNumber from to s = numberIn (digitsOf (part from to s))
+-- what each part holds
+unfoldable pub numbersAt : List ℕ → Numbers
+numbersAt s =
+    record {
+      execution = part 0 8 s;
+      most = part 9 11 s;
+      offered = part 12 27 s;
+      minimum = part 28 43 s;
+      increment = part 44 59 s;
+      maximum = part 60 75 s;
+      allocation = part 76 91 s;
+      limit = part 92 100 s;
+    }
 
-unfoldable pub firstParts : List ℕ → Bool
-firstParts s =
-    allDigits (part 0 8 s)
+-- the numbers, each 0 where there is none
+abbrev pub valuesOf : Numbers → List ℕ
+valuesOf n =
+    numberIn (n .execution)
+    ∷ numberIn (n .most)
+    ∷ numberIn (n .offered)
+    ∷ numberIn (n .minimum)
+    ∷ numberIn (n .increment)
+    ∷ numberIn (n .maximum)
+    ∷ numberIn (n .allocation)
+    ∷ numberIn (n .limit)
+    ∷ []
+
+-- the first four parts have numbers, each with a slash after it
+unfoldable pub firstFormed : List ℕ → Numbers → Bool
+firstFormed s n =
+    isNumber (n .execution)
     && eqb (getD s 8 0) slash
-    && allDigits (part 9 11 s)
+    && isNumber (n .most)
     && eqb (getD s 11 0) slash
-    && allDigits (part 12 27 s)
+    && isNumber (n .offered)
     && eqb (getD s 27 0) slash
-    && allDigits (part 28 43 s)
+    && isNumber (n .minimum)
     && eqb (getD s 43 0) slash
 
-unfoldable pub lastParts : List ℕ → Bool
-lastParts s =
-    allDigits (part 44 59 s)
+-- the last four have numbers, joined by slashes
+unfoldable pub lastFormed : List ℕ → Numbers → Bool
+lastFormed s n =
+    isNumber (n .increment)
     && eqb (getD s 59 0) slash
-    && allDigits (part 60 75 s)
+    && isNumber (n .maximum)
     && eqb (getD s 75 0) slash
-    && allDigits (part 76 91 s)
+    && isNumber (n .allocation)
     && eqb (getD s 91 0) slash
-    && allDigits (part 92 100 s)
-
-unfoldable pub amountsOf : List ℕ → Amounts
-amountsOf s =
-    record {
-      offered = record { 0 = partNumber 12 27 s };
-      minimum = record { 0 = partNumber 28 43 s };
-      increment = record { 0 = partNumber 44 59 s };
-      maximum = record { 0 = partNumber 60 75 s };
-      allocation = record { 0 = partNumber 76 91 s };
-    }
+    && isNumber (n .limit)

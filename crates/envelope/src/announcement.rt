@@ -1,23 +1,26 @@
 // A 6G0, the announcement of a tender, read from bytes.
 use crate::application::is_identifier;
+use crate::internal::bytes_in_6g0;
 use crate::internal::number_in;
 use calendar::date_before;
 use digits::Digits;
-use digits::all_digits;
-use digits::internal::number;
+use digits::has_number;
 use digits::number_of;
 use layout::internal::contents;
 use places::Amount;
 use places::Rate;
 use texts::same;
+use words::internal::long_number_at;
+use words::internal::number_at;
 ghost use mathlib.Core.Path.{_≡_};
 ghost use mathlib.Core.Bool.{true, false};
 ghost use mathlib.Core.List.{[]};
-ghost use Prim.Native.Nat.{_+_, _-_, _≤_};
-ghost use lib.ListN.{length, take, drop};
+ghost use Prim.Native.Nat.{_<_};
+ghost use lib.ListN.{length};
+ghost use Rattle.digits.specs.Decimal.{numberIn};
 ghost use Rattle.layout.specs.Fields.{readable};
-ghost use Rattle.envelope.specs.Announcement.{layout6G0, position, fieldBytes, tenderTypeOf, widths, numbersIn, characteristicsFrom, characteristicsOf, referencesOf, announcementOf, noAnnouncement, reading, datesOrdered};
-ghost use Rattle.envelope.specs.Parts.{part, partNumber, firstParts, lastParts, amountsOf};
+ghost use Rattle.envelope.specs.Announcement.{layout6G0, fieldBytes, tenderTypeOf, characteristicsFrom, characteristicsOf, referencesOf, announcementOf, noAnnouncement, reading, datesOrdered};
+ghost use Rattle.envelope.specs.Parts.{numbersAt, valuesOf, firstFormed, lastFormed};
 
 // The fields of a 6G0, in their order.
 pub enum Field {
@@ -86,43 +89,29 @@ pub struct Reading {
     pub announcement: Announcement,
 }
 
-// The five amounts of field 6G2.
-struct Amounts {
-    offered: Amount,
-    minimum: Amount,
-    increment: Amount,
-    maximum: Amount,
-    allocation: Amount,
+// What the eight parts of field 6G2 hold.
+struct Numbers {
+    execution: Digits,
+    most: Digits,
+    offered: Digits,
+    minimum: Digits,
+    increment: Digits,
+    maximum: Digits,
+    allocation: Digits,
+    limit: Digits,
 }
 
-// Whether m has the fields of a 6G0, in order, with their lengths, and nothing after them.
+// Whether m has the fields of a 6G0, in order, with their lengths, and nothing after them. Its length is tested first, so that the compiler knows it in every other test.
 pub fn is_6g0(m: &[u8]) -> bool
     ensures { λ r. ⌜ r ≡ readable layout6G0 (now (m .entry)) ⌝ }
 {
+    if m.len() != 225 {
+        return false;
+    }
     layout::readable(
         b"\x01\x03\x03\x04\x05\x05\x05\x05\x05\x02\x0b\x0b\x31\x08\x08\x60\x06\x06\x70\x0b\x0b\x71\x12\x12\x72\x64\x64\x73\x08\x08\x74\x08\x08\x75\x06\x06",
         m,
     )
-}
-
-// The place of a field in the layout.
-fn position_of(f: Field) -> usize
-    ensures { λ r. ⌜ r ≡ position f ⌝ }
-{
-    match f {
-        Field::MessageType => 0,
-        Field::Sender => 1,
-        Field::Recipient => 2,
-        Field::Cro => 3,
-        Field::Date => 4,
-        Field::Time => 5,
-        Field::Identifier => 6,
-        Field::TenderType => 7,
-        Field::Characteristics => 8,
-        Field::SpotDate => 9,
-        Field::ForwardDate => 10,
-        Field::Cutoff => 11,
-    }
 }
 
 // The bytes of a field, or none where m is no 6G0.
@@ -130,7 +119,7 @@ pub fn bytes(m: &[u8], f: Field) -> &[u8]
     ensures { λ r. ⌜ now r ≡ fieldBytes f (now (m .entry)) ⌝ }
 {
     if is_6g0(m) {
-        contents(m, position_of(f))
+        bytes_in_6g0(m, f)
     } else {
         &m[0..0]
     }
@@ -155,90 +144,20 @@ pub fn kind_of(s: &[u8]) -> Kind
     Kind::Unknown
 }
 
-// Whether the first four parts of the characteristics are digits, each with a slash after it.
-fn first_formed(s: &[u8]) -> bool
+// What the parts of the characteristics hold. Each is read once, to be tested and to give its number.
+fn numbers_at(s: &[u8]) -> Numbers
     requires { ⌜ length (now s) ≡ 100 ⌝ }
-    ensures { λ r. ⌜ r ≡ firstParts (now (s .entry)) ⌝ }
-{
-    all_digits(&s[0..8])
-        & (s[8] == b'/')
-        & all_digits(&s[9..11])
-        & (s[11] == b'/')
-        & all_digits(&s[12..27])
-        & (s[27] == b'/')
-        & all_digits(&s[28..43])
-        & (s[43] == b'/')
-}
-
-// Whether the last four parts are digits, joined by slashes.
-fn last_formed(s: &[u8]) -> bool
-    requires { ⌜ length (now s) ≡ 100 ⌝ }
-    ensures { λ r. ⌜ r ≡ lastParts (now (s .entry)) ⌝ }
-{
-    all_digits(&s[44..59])
-        & (s[59] == b'/')
-        & all_digits(&s[60..75])
-        & (s[75] == b'/')
-        & all_digits(&s[76..91])
-        & (s[91] == b'/')
-        & all_digits(&s[92..100])
-}
-
-// The number in a part of a text, 0 where it has none.
-fn number_at(s: &[u8], from: usize, to: usize) -> u64
-    requires { ⌜ (from ≤ to) × (to ≤ length (now s)) × (to ≤ from + 19) ⌝ }
-    ensures { λ r. ⌜ r ≡ partNumber from to (now (s .entry)) ⌝ }
-{
-    number_of(number(&s[from..to]))
-}
-
-// The five amounts, in their order.
-fn amounts_of(s: &[u8]) -> Amounts
-    requires { ⌜ length (now s) ≡ 100 ⌝ }
-    ensures { λ r. ⌜ r ≡ amountsOf (now (s .entry)) ⌝ }
-{
-    let offered = number_at(s, 12, 27);
-    let minimum = number_at(s, 28, 43);
-    let increment = number_at(s, 44, 59);
-    let maximum = number_at(s, 60, 75);
-    let allocation = number_at(s, 76, 91);
-    Amounts {
-        offered: Amount(offered),
-        minimum: Amount(minimum),
-        increment: Amount(increment),
-        maximum: Amount(maximum),
-        allocation: Amount(allocation),
-    }
-}
-
-// Field 6G2: its numbers, or none where it is malformed.
-fn characteristics_of(s: &[u8]) -> Characteristics
-    requires { ⌜ length (now s) ≡ 100 ⌝ }
-    ensures { λ r. ⌜ r ≡ characteristicsOf (now (s .entry)) ⌝ }
-{
-    if first_formed(s) & last_formed(s) {
-        formed_characteristics(s)
-    } else {
-        no_characteristics()
-    }
-}
-
-// The numbers of well-formed characteristics.
-fn formed_characteristics(s: &[u8]) -> Characteristics
-    requires { ⌜ length (now s) ≡ 100 ⌝ }
-    ensures { λ r. ⌜ r ≡ characteristicsFrom true (numbersIn 0 widths (now (s .entry))) ⌝ }
+    ensures { λ r. ⌜ r ≡ numbersAt (now (s .entry)) ⌝ }
 {
     let execution = number_at(s, 0, 8);
     let most = number_at(s, 9, 11);
+    let offered = long_number_at(s, 12, 27);
+    let minimum = long_number_at(s, 28, 43);
+    let increment = long_number_at(s, 44, 59);
+    let maximum = long_number_at(s, 60, 75);
+    let allocation = long_number_at(s, 76, 91);
     let limit = number_at(s, 92, 100);
-    let a = amounts_of(s);
-    let offered = a.offered;
-    let minimum = a.minimum;
-    let increment = a.increment;
-    let maximum = a.maximum;
-    let allocation = a.allocation;
-    Characteristics {
-        formed: true,
+    Numbers {
         execution,
         most,
         offered,
@@ -246,7 +165,83 @@ fn formed_characteristics(s: &[u8]) -> Characteristics
         increment,
         maximum,
         allocation,
-        limit: Rate(limit as u32),
+        limit,
+    }
+}
+
+// Whether the first four parts have numbers, each with a slash after it.
+fn first_formed(s: &[u8], n: Numbers) -> bool
+    requires { ⌜ length (now s) ≡ 100 ⌝ }
+    ensures { λ r. ⌜ r ≡ firstFormed (now (s .entry)) n ⌝ }
+{
+    let execution = n.execution;
+    let most = n.most;
+    let offered = n.offered;
+    let minimum = n.minimum;
+    has_number(execution)
+        & (s[8] == b'/')
+        & has_number(most)
+        & (s[11] == b'/')
+        & has_number(offered)
+        & (s[27] == b'/')
+        & has_number(minimum)
+        & (s[43] == b'/')
+}
+
+// Whether the last four parts have numbers, joined by slashes.
+fn last_formed(s: &[u8], n: Numbers) -> bool
+    requires { ⌜ length (now s) ≡ 100 ⌝ }
+    ensures { λ r. ⌜ r ≡ lastFormed (now (s .entry)) n ⌝ }
+{
+    let increment = n.increment;
+    let maximum = n.maximum;
+    let allocation = n.allocation;
+    let limit = n.limit;
+    has_number(increment)
+        & (s[59] == b'/')
+        & has_number(maximum)
+        & (s[75] == b'/')
+        & has_number(allocation)
+        & (s[91] == b'/')
+        & has_number(limit)
+}
+
+// Field 6G2: its numbers, or none where it is malformed.
+fn characteristics_of(s: &[u8]) -> Characteristics
+    requires { ⌜ length (now s) ≡ 100 ⌝ }
+    ensures { λ r. ⌜ r ≡ characteristicsOf (now (s .entry)) ⌝ }
+{
+    let n = numbers_at(s);
+    if first_formed(s, n) & last_formed(s, n) {
+        formed_characteristics(n)
+    } else {
+        no_characteristics()
+    }
+}
+
+// Characteristics with the numbers of their parts.
+fn formed_characteristics(n: Numbers) -> Characteristics
+    requires { ⌜ numberIn (n .limit) < 100000000 ⌝ }
+    ensures { λ r. ⌜ r ≡ characteristicsFrom true (valuesOf n) ⌝ }
+{
+    let execution = n.execution;
+    let most = n.most;
+    let offered = n.offered;
+    let minimum = n.minimum;
+    let increment = n.increment;
+    let maximum = n.maximum;
+    let allocation = n.allocation;
+    let limit = n.limit;
+    Characteristics {
+        formed: true,
+        execution: number_of(execution),
+        most: number_of(most),
+        offered: Amount(number_of(offered)),
+        minimum: Amount(number_of(minimum)),
+        increment: Amount(number_of(increment)),
+        maximum: Amount(number_of(maximum)),
+        allocation: Amount(number_of(allocation)),
+        limit: Rate(number_of(limit) as u32),
     }
 }
 

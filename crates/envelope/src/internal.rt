@@ -1,4 +1,5 @@
 // What asks for a message that was found readable.
+use crate::announcement;
 use crate::application::Field;
 use digits::Digits;
 use digits::internal::number;
@@ -10,6 +11,7 @@ ghost use lib.ListN.{length};
 ghost use Rattle.digits.specs.Decimal.{digitsOf};
 ghost use Rattle.layout.specs.Fields.{readable, content, whole};
 ghost use Rattle.envelope.specs.Application.{layout6G1, position, bytesOf};
+ghost use Rattle.envelope.specs.Announcement as announced;
 
 // The number in field k, counted from 0.
 pub fn number_in(m: &[u8], k: usize) -> Digits
@@ -44,4 +46,32 @@ pub fn bytes_in(m: &[u8], f: Field) -> &[u8]
     ensures { λ r. ⌜ now r ≡ bytesOf f (now (m .entry)) ⌝ }
 {
     contents(m, position_of(f))
+}
+
+// The place of a field in the layout of a 6G0.
+fn position_in_6g0(f: announcement::Field) -> usize
+    ensures { λ r. ⌜ r ≡ announced.position f ⌝ }
+{
+    match f {
+        announcement::Field::MessageType => 0,
+        announcement::Field::Sender => 1,
+        announcement::Field::Recipient => 2,
+        announcement::Field::Cro => 3,
+        announcement::Field::Date => 4,
+        announcement::Field::Time => 5,
+        announcement::Field::Identifier => 6,
+        announcement::Field::TenderType => 7,
+        announcement::Field::Characteristics => 8,
+        announcement::Field::SpotDate => 9,
+        announcement::Field::ForwardDate => 10,
+        announcement::Field::Cutoff => 11,
+    }
+}
+
+// The bytes of a field of a readable 6G0.
+pub fn bytes_in_6g0(m: &[u8], f: announcement::Field) -> &[u8]
+    requires { ⌜ readable announced.layout6G0 (now m) ≡ true ⌝ }
+    ensures { λ r. ⌜ now r ≡ announced.bytesOf f (now (m .entry)) ⌝ }
+{
+    contents(m, position_in_6g0(f))
 }

@@ -9,11 +9,12 @@ use envelope::announcement::Announcement;
 use envelope::announcement::Characteristics;
 use envelope::announcement::Field;
 use envelope::announcement::Kind;
+use envelope::announcement::Reading;
 use envelope::announcement::References;
 use envelope::announcement::Side;
-use envelope::announcement::bytes;
 use envelope::announcement::dates_ordered;
 use envelope::announcement::read;
+use envelope::internal::bytes_in_6g0;
 use places::Amount;
 use places::Rate;
 use texts::same;
@@ -23,7 +24,7 @@ ghost use mathlib.Core.List.{List, []};
 ghost use Prim.Native.Nat.{ℕ, _<_};
 ghost use lib.ListN.{length};
 ghost use Rattle.layout.specs.Fields.{readable};
-ghost use Rattle.envelope.specs.Announcement.{layout6G0};
+ghost use Rattle.envelope.specs.Announcement.{layout6G0, announcementOf, reading};
 ghost use Rattle.envelope.specs.Refusals.{orZero};
 ghost use Rattle.rules.specs.Opening.{isDate, isTime, wellFormed, otherOrigin, isUnknown, impossible, badCodes, openingRefused, sideOf, termsOf, noTerms};
 ghost use Rattle.terms.specs.Viewed.{referencesFormed, datesFormed, risesFrom, datesInOrder, openRefusal, isOpened, viewed, admittedIn, opening};
@@ -114,7 +115,8 @@ fn other_origin(m: &[u8]) -> bool
     requires { ⌜ readable layout6G0 (now m) ≡ true ⌝ }
     ensures { λ r. ⌜ r ≡ otherOrigin (now (m .entry)) ⌝ }
 {
-    !(same(bytes(m, Field::MessageType), b"6G0") & same(bytes(m, Field::Sender), b"01000"))
+    !(same(bytes_in_6g0(m, Field::MessageType), b"6G0")
+        & same(bytes_in_6g0(m, Field::Sender), b"01000"))
 }
 
 fn is_unknown(k: Kind) -> bool
@@ -196,10 +198,10 @@ fn in_order(a: Announcement) -> bool
 }
 
 // The first condition of opening that holds, or that none does.
-fn refusal(m: &[u8], codes: &[u32]) -> OpenAnswer
-    ensures { λ r. ⌜ openRefusal r ≡ openingRefused (now (m .entry)) (now (codes .entry)) ⌝ }
+fn refusal(m: &[u8], r: Reading, codes: &[u32]) -> OpenAnswer
+    requires { ⌜ (r .readable, r .announcement) ≡ reading (now m) ⌝ }
+    ensures { λ a. ⌜ openRefusal a ≡ openingRefused (now (m .entry)) (now (codes .entry)) ⌝ }
 {
-    let r = read(m);
     if !r.readable {
         return OpenAnswer::NotAnnouncement;
     }
@@ -242,11 +244,10 @@ fn eleven(s: &[u8]) -> [u8; 11]
 }
 
 // What a tender keeps of an announcement.
-fn terms_of(m: &[u8]) -> Terms
-    requires { ⌜ readable layout6G0 (now m) ≡ true ⌝ }
+fn terms_of(m: &[u8], a: Announcement) -> Terms
+    requires { ⌜ (readable layout6G0 (now m) ≡ true) × (a ≡ announcementOf (now m)) ⌝ }
     ensures { λ r. ⌜ ((codes : List ℕ) → viewed r codes ≡ termsOf (now (m .entry)) codes) ⌝ }
 {
-    let a = read(m).announcement;
     let kind = a.kind;
     let side = side_of(kind);
     let cutoff = a.cutoff;
@@ -257,7 +258,7 @@ fn terms_of(m: &[u8]) -> Terms
     let maximum = c.maximum;
     let allocation = c.allocation;
     let limit = c.limit;
-    let identifier = eleven(bytes(m, Field::Identifier));
+    let identifier = eleven(bytes_in_6g0(m, Field::Identifier));
     Terms {
         identifier,
         side,
@@ -274,7 +275,7 @@ fn terms_of(m: &[u8]) -> Terms
 }
 
 // The terms of the tender that a refused opening gives back.
-fn no_terms() -> Terms
+pub fn no_terms() -> Terms
     ensures { λ r. ⌜ viewed r [] ≡ noTerms ⌝ }
 {
     Terms {
@@ -328,11 +329,13 @@ pub fn number_of_answer(a: OpenAnswer) -> u64
 pub fn open(m: &[u8], codes: &[u32]) -> Opening
     ensures { λ r. ⌜ (openRefusal (r .answer), viewed (r .terms) (admittedIn (now (m .entry)) (now (codes .entry)))) ≡ opening (now (m .entry)) (now (codes .entry)) ⌝ }
 {
-    let answer = refusal(m, codes);
+    let r = read(m);
+    let answer = refusal(m, r, codes);
     if is_opened(answer) {
+        let a = r.announcement;
         Opening {
             answer,
-            terms: terms_of(m),
+            terms: terms_of(m, a),
         }
     } else {
         Opening {

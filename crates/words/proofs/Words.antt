@@ -2,12 +2,13 @@
 use mathlib.Core.Path.{_≡_, refl, sym, ap, ap₂, _∙_}
 use mathlib.Core.Bool.{Bool, true, false, cond, not, _&&_}
 use mathlib.Core.List.{List, [], _∷_, _++_, map}
-use Prim.Native.Nat.{ℕ, zero, suc, _+_, _*_, _-_, _/_, _%_, _<_}
-use native.Mathlib.Nat.{not-suc-le-zero}
+use Prim.Native.Nat.{ℕ, zero, suc, _+_, _*_, _-_, _/_, _%_, _^_, _<_}
+use native.Mathlib.Nat.{not-suc-le-zero, lt-of-le-of-lt, mod-eq-of-lt, div-mul-le-self, div-div-eq-div-mul, mul-assoc}
 use native.Mathlib.Omega.{arith}
 use lib.Dec.{leb, ltb, eqb, lit<}
 use lib.Bits.{bitAnd, bitOr, bitXor, and-block, or-block, and-le-r, or-lt, and-zero-r, xor-mod, xor-shr}
 use lib.ListN.{length, take, drop, getD}
+use lib.Pow.{pow-add}
 use lib.Seq.{take-all}
 use borrow.Author.Tests.{eq-eqb, eqb-true, ltb-true, ltb-false}
 use Rattle.laws.proofs.Tests.{and-left, and-right, same-test}
@@ -169,6 +170,57 @@ lowered-is s w e =
     record {
       small = ap allSmall (low-bytes 8 w) ∙ low-small 8 w ∙ ap allDigits e;
       number = λ h. ap (decimal 0) (low-bytes 8 w) ∙ low-number 8 w 0 (ap allDigits e ∙ h) ∙ ap (numberFrom 0) e;
+    }
+
+-- the k low bytes cleared
+abbrev cleared : ℕ → ℕ → ℕ
+cleared k x = x / 2 ^ (8 * k) * 2 ^ (8 * k)
+
+cleared-bytes : (k n x : ℕ) → bytesOf (suc n) (cleared (suc k) x) ≡ 0 ∷ bytesOf n (cleared k (x / 256))
+unfolding bytesOf
+cleared-bytes k n x =
+    let y = cleared k (x / 256) in
+    let p : 2 ^ (8 * suc k) ≡ 256 * 2 ^ (8 * k) = ap (λ (j : ℕ). 2 ^ j) (let z : 8 * suc k ≡ 8 + 8 * k = omega arith in z) ∙ pow-add 2 8 (8 * k) in
+    let e : cleared (suc k) x ≡ y * 256 =
+    ap (λ (u : ℕ). x / u * u) p ∙ ap (λ (q : ℕ). q * (256 * 2 ^ (8 * k))) (sym (div-div-eq-div-mul x 256 (2 ^ (8 * k)))) ∙ (let m = mul-assoc (x / 256 / 2 ^ (8 * k)) (2 ^ (8 * k)) 256 in omega arith) in
+    let a : y * 256 % 256 ≡ 0 = omega arith in
+    let b : y * 256 / 256 ≡ y = omega arith in
+    rw (e, a, b)
+
+low-rest : (n w : ℕ) → bitXor w (each (suc n) 48) / 256 ≡ bitXor (w / 256) (each n 48)
+unfolding each
+low-rest n w =
+    let q : (each n 48 * 256 + 48) / 256 ≡ each n 48 = omega arith in
+    xor-shr w (each n 48 * 256 + 48) 8 ∙ ap (bitXor (w / 256)) q
+
+none-cleared : (x : ℕ) → cleared 0 x ≡ x
+none-cleared x = omega arith
+
+after-small : (k n w : ℕ) → allSmall (bytesOf n (cleared k (bitXor w (each n 48)))) ≡ allDigits (drop k (bytesOf n w))
+unfolding allSmall allDigits bytesOf
+after-small zero n w = ap (λ (x : ℕ). allSmall (bytesOf n x)) (none-cleared (bitXor w (each n 48))) ∙ ap allSmall (low-bytes n w) ∙ low-small n w
+after-small (suc k) zero w = refl
+after-small (suc k) (suc n) w =
+    ap allSmall (cleared-bytes k n (bitXor w (each (suc n) 48))) ∙ ap (λ (x : ℕ). allSmall (bytesOf n (cleared k x))) (low-rest n w) ∙ after-small k n (w / 256)
+
+after-number : (k n w : ℕ) → allDigits (drop k (bytesOf n w)) ≡ true → decimal 0 (bytesOf n (cleared k (bitXor w (each n 48)))) ≡ numberFrom 0 (drop k (bytesOf n w))
+unfolding decimal numberFrom bytesOf
+after-number zero n w h = ap (λ (x : ℕ). decimal 0 (bytesOf n x)) (none-cleared (bitXor w (each n 48))) ∙ ap (decimal 0) (low-bytes n w) ∙ low-number n w 0 h
+after-number (suc k) zero w h = refl
+after-number (suc k) (suc n) w h =
+    ap (decimal 0) (cleared-bytes k n (bitXor w (each (suc n) 48))) ∙ ap (λ (x : ℕ). decimal 0 (bytesOf n (cleared k x))) (low-rest n w) ∙ after-number k n (w / 256) h
+
+pub lowered-after-is : (k : ℕ) (s : List ℕ) (w : ℕ) → bytesOf 8 w ≡ s → bitXor w 3472328296227680304 < 2 ^ 64 → Lowered (drop k s) (cleared k (bitXor w 3472328296227680304) % 2 ^ 64)
+unfolding each
+lowered-after-is k s w e h =
+    let x = bitXor w 3472328296227680304 in
+    let f : cleared k x % 2 ^ 64 ≡ cleared k x = mod-eq-of-lt (lt-of-le-of-lt (div-mul-le-self x (2 ^ (8 * k))) h) in
+    record {
+      small = ap (λ (y : ℕ). allSmall (bytesOf 8 y)) f ∙ after-small k 8 w ∙ ap (λ (l : List ℕ). allDigits (drop k l)) e;
+      number = λ d.
+          ap (λ (y : ℕ). decimal 0 (bytesOf 8 y)) f
+          ∙ after-number k 8 w (ap (λ (l : List ℕ). allDigits (drop k l)) e ∙ d)
+          ∙ ap (λ (l : List ℕ). numberFrom 0 (drop k l)) e;
     }
 
 -- a slash taken off the first

@@ -1,12 +1,15 @@
 // Eight bytes at a time. What gives a number asks for bytes that were found to be 0 to 9, and writing for room.
+use digits::Digits;
+use digits::has_number;
 use digits::internal::wide;
+use digits::number_of;
 ghost use mathlib.Core.Path.{_≡_};
 ghost use mathlib.Core.Bool.{true};
-ghost use mathlib.Core.List.{_∷_};
-ghost use Prim.Native.Nat.{_+_, _%_, _<_, _≤_};
-ghost use lib.ListN.{length};
+ghost use mathlib.Core.List.{List, _∷_};
+ghost use Prim.Native.Nat.{ℕ, _+_, _-_, _%_, _<_, _≤_};
+ghost use lib.ListN.{length, take, drop};
 ghost use Rattle.output.specs.Output.{Wrote};
-ghost use Rattle.digits.specs.Decimal.{digits};
+ghost use Rattle.digits.specs.Decimal.{digitsOf, digits};
 ghost use Rattle.words.specs.Words.{bytesOf, allSmall, decimal, Lowered, AfterSlash};
 
 // Four bytes as half a word, the first lowest.
@@ -34,6 +37,14 @@ pub fn lowered(s: &[u8]) -> u64
     eight_bytes(s) ^ 0x3030303030303030
 }
 
+// The same of the bytes after the first k, which become 0.
+fn lowered_after(s: &[u8], k: usize) -> u64
+    requires { ⌜ (length (now s) ≡ 8) × (k < 8) ⌝ }
+    ensures { λ r. ⌜ Lowered (drop k (now (s .entry))) r ⌝ }
+{
+    (eight_bytes(s) ^ 0x3030303030303030) >> (8 * k) << (8 * k)
+}
+
 // The same where a slash stands first, which becomes 0.
 pub fn after_slash(s: &[u8]) -> u64
     requires { ⌜ length (now s) ≡ 8 ⌝ }
@@ -57,6 +68,53 @@ pub fn value(t: u64) -> u64
     let p = (t * 10 + (t >> 8)) & 0x00FF00FF00FF00FF;
     let f = (p * 100 + (p >> 16)) & 0x0000FFFF0000FFFF;
     (f * 10000 + (f >> 32)) & 0xFFFFFFFF
+}
+
+// What the bytes hold that a lowered word was made of.
+fn held(t: u64) -> Digits
+    ensures { λ r. ⌜ ((s : List ℕ) → Lowered s t → r ≡ digitsOf s) ⌝ }
+{
+    if all_small(t) {
+        return Digits::Number(value(t));
+    }
+    Digits::None
+}
+
+// What eight bytes hold.
+pub fn eight(s: &[u8]) -> Digits
+    requires { ⌜ length (now s) ≡ 8 ⌝ }
+    ensures { λ r. ⌜ r ≡ digitsOf (now (s .entry)) ⌝ }
+{
+    held(lowered(s))
+}
+
+// What the bytes after the first k of eight hold.
+pub fn last_of_eight(s: &[u8], k: usize) -> Digits
+    requires { ⌜ (length (now s) ≡ 8) × (k < 8) ⌝ }
+    ensures { λ r. ⌜ r ≡ digitsOf (drop k (now (s .entry))) ⌝ }
+{
+    held(lowered_after(s, k))
+}
+
+// The number in up to eight bytes of a text, between two indices of which the second is 8 or more.
+pub fn number_at(s: &[u8], from: usize, to: usize) -> Digits
+    requires { ⌜ (from < to) × (to ≤ from + 8) × (8 ≤ to) × (to ≤ length (now s)) ⌝ }
+    ensures { λ r. ⌜ r ≡ digitsOf (take (to - from) (drop from (now (s .entry)))) ⌝ }
+{
+    last_of_eight(&s[to - 8..to], 8 - (to - from))
+}
+
+// The same of nine to sixteen bytes, where the second index is 16 or more.
+pub fn long_number_at(s: &[u8], from: usize, to: usize) -> Digits
+    requires { ⌜ (from + 8 < to) × (to ≤ from + 16) × (16 ≤ to) × (to ≤ length (now s)) ⌝ }
+    ensures { λ r. ⌜ r ≡ digitsOf (take (to - from) (drop from (now (s .entry)))) ⌝ }
+{
+    let high = number_at(s, from, to - 8);
+    let low = number_at(s, to - 8, to);
+    if has_number(high) & has_number(low) {
+        return Digits::Number(number_of(high) * 100000000 + number_of(low));
+    }
+    Digits::None
 }
 
 // The word whose bytes are the eight digits of n, the first lowest: n is parted into fours, pairs

@@ -1,12 +1,11 @@
 -- `terms::other_origin` meets its contract. Assumes nothing.
 use borrow.Author.Needs.{needs}
-use Rattle.envelope.specs.Announcement.{fieldBytes}
 use Rattle.rules.specs.Opening.{otherOrigin}
 use Rattle.terms.proofs.other_origin.Statement.{statement}
 use Rattle.terms.proofs.other_origin.Tie as tie
 
-bytes-requires : tie.Need-bytes-requires
-bytes-requires c κs = search needs
+bytes-in-6g0-requires : tie.Need-bytes-in-6g0-requires
+bytes-in-6g0-requires c κs = search needs
 
 slice-aggregate-same : tie.Need-slice-aggregate-same
 slice-aggregate-same c = search needs
@@ -14,8 +13,8 @@ slice-aggregate-same c = search needs
 same-requires : tie.Need-same-requires
 same-requires c κs = search needs
 
-bytes-requires-2 : tie.Need-bytes-requires-2
-bytes-requires-2 c κs = search needs
+bytes-in-6g0-requires-2 : tie.Need-bytes-in-6g0-requires-2
+bytes-in-6g0-requires-2 c κs = search needs
 
 slice-aggregate-same-2 : tie.Need-slice-aggregate-same-2
 slice-aggregate-same-2 c = search needs
@@ -24,17 +23,17 @@ same-requires-2 : tie.Need-same-requires-2
 same-requires-2 c κs = search needs
 
 returns : tie.Need-returns
-unfolding otherOrigin fieldBytes
-returns c = rw (c .before .before .before .same .ensures, c .same2 .ensures, c .before .before .before .before .before .bytes .ensures, c .before .before .bytes2 .ensures, c .before .before .before .before .before .before .before .pre)
+unfolding otherOrigin
+returns c = rw (c .before .before .before .same .ensures, c .same2 .ensures, c .before .before .before .before .before .bytes-in-6g0 .ensures, c .before .before .bytes-in-6g02 .ensures)
 
 pub other-origin-spec : {M : Type 1} → statement M
 other-origin-spec =
     tie.close
     (tie.spec
-    bytes-requires
+    bytes-in-6g0-requires
     slice-aggregate-same
     same-requires
-    bytes-requires-2
+    bytes-in-6g0-requires-2
     slice-aggregate-same-2
     same-requires-2
     returns)

@@ -1,20 +1,15 @@
 -- `envelope::announcement::bytes` meets its contract. Assumes nothing.
 use borrow.Author.Needs.{needs}
 use mathlib.Core.Path.{sym, _∙_}
-use denote.Ref.{now}
 use Rattle.envelope.specs.Announcement.{fieldBytes}
-use Rattle.envelope.proofs.Fields6G0.{whole-field}
 use Rattle.envelope.proofs.announcement.bytes.Statement.{statement}
 use Rattle.envelope.proofs.announcement.bytes.Tie as tie
 
 is-6g0-requires : tie.Need-is-6g0-requires
 is-6g0-requires c κs = search needs
 
-position-of-requires : tie.Need-position-of-requires
-position-of-requires c κs = search needs
-
-contents-requires : tie.Need-contents-requires
-contents-requires c κs = rw (c .position-of .ensures) (whole-field (now (c .before .before .before .before .args .m)) (sym (c .before .before .is-6g0 .ensures) ∙ c .before .if1 .taken) (c .before .before .before .before .args .f))
+bytes-in-6g0-requires : tie.Need-bytes-in-6g0-requires
+bytes-in-6g0-requires c κs = sym (c .before .is-6g0 .ensures) ∙ c .if1 .taken
 
 sub-result : tie.Need-sub-result
 sub-result c = search needs
@@ -27,7 +22,7 @@ part-result-end c = search needs
 
 returns : tie.Need-returns
 unfolding fieldBytes
-returns c = rw (sym (c .before .before .before .is-6g0 .ensures) ∙ c .before .before .if1 .taken, ← c .before .position-of .ensures) (c .contents .ensures)
+returns c = rw (sym (c .before .before .is-6g0 .ensures) ∙ c .before .if1 .taken) (c .bytes-in-6g0 .ensures)
 
 returns-2 : tie.Need-returns-2
 unfolding fieldBytes
@@ -38,8 +33,7 @@ bytes-spec =
     tie.close
     (tie.spec
     is-6g0-requires
-    position-of-requires
-    contents-requires
+    bytes-in-6g0-requires
     sub-result
     part-result-start
     part-result-end

@@ -1,16 +1,26 @@
 -- `envelope::announcement::characteristics_of` meets its contract. Assumes nothing.
 use borrow.Author.Needs.{needs}
-use mathlib.Core.Path.{_≡_, _∙_}
-use mathlib.Core.Bool.{_&&_}
+use mathlib.Core.Path.{_≡_, sym, ap, ap₂, _∙_, subst}
+use mathlib.Core.Bool.{true, _&&_}
+use Prim.Native.Nat.{_<_}
 use denote.Ref.{now}
-use Rattle.envelope.specs.Announcement.{widths, joined, characteristicsOf}
-use Rattle.envelope.proofs.Parts.{joined-parts}
+use Rattle.digits.specs.Decimal.{numberIn}
+use Rattle.envelope.specs.declared.announcement.Numbers.{Numbers}
+use Rattle.envelope.specs.Announcement.{widths, joined, characteristicsFrom, characteristicsOf}
+use Rattle.envelope.specs.Parts.{valuesOf, firstFormed, lastFormed}
+use Rattle.envelope.proofs.Parts.{joined-parts, values-parts, limit-fits}
 use Rattle.envelope.proofs.announcement.characteristics_of.Statement.{statement}
 use Rattle.envelope.proofs.announcement.characteristics_of.Tie as tie
 
 -- the test that the code makes is the definition's
-tested : (c : tie.After-last-formed) → joined 0 widths (now (c .before .before .before .args .s)) ≡ (c .before .first-formed .result && c .last-formed .result)
-tested c = rw (c .before .first-formed .ensures, c .last-formed .ensures) (joined-parts (now (c .before .before .before .args .s)) (c .before .before .before .pre))
+tested : (c : tie.After-last-formed) → joined 0 widths (now (c .before .before .before .before .args .s)) ≡ (c .before .first-formed .result && c .last-formed .result)
+tested c =
+    let s = now (c .before .before .before .before .args .s) in
+    joined-parts s (c .before .before .before .before .pre)
+    ∙ sym (ap₂ _&&_ (c .before .first-formed .ensures ∙ ap (firstFormed s) (c .before .before .numbers-at .ensures)) (c .last-formed .ensures ∙ ap (lastFormed s) (c .before .before .numbers-at .ensures)))
+
+numbers-at-requires : tie.Need-numbers-at-requires
+numbers-at-requires c κs = search needs
 
 first-formed-requires : tie.Need-first-formed-requires
 first-formed-requires c κs = search needs
@@ -19,14 +29,18 @@ last-formed-requires : tie.Need-last-formed-requires
 last-formed-requires c κs = search needs
 
 formed-characteristics-requires : tie.Need-formed-characteristics-requires
-formed-characteristics-requires c κs = search needs
+formed-characteristics-requires c κs =
+    subst (λ (n : Numbers). numberIn (n .limit) < 100000000) (sym (c .before .before .before .numbers-at .ensures)) (limit-fits (now (c .before .before .before .before .before .args .s)) (c .before .before .before .before .before .pre))
 
 no-characteristics-requires : tie.Need-no-characteristics-requires
 no-characteristics-requires c κs = search needs
 
 returns : tie.Need-returns
 unfolding characteristicsOf
-returns c = rw (tested (c .before .before) ∙ c .before .if1 .taken) (c .formed-characteristics .ensures)
+returns c =
+    let s = now (c .before .before .before .before .before .before .args .s) in
+    rw (tested (c .before .before) ∙ c .before .if1 .taken)
+    (c .formed-characteristics .ensures ∙ ap (λ (n : Numbers). characteristicsFrom true (valuesOf n)) (c .before .before .before .before .numbers-at .ensures) ∙ ap (characteristicsFrom true) (values-parts s))
 
 returns-2 : tie.Need-returns-2
 unfolding characteristicsOf
@@ -36,6 +50,7 @@ pub characteristics-of-spec : {M : Type 1} → statement M
 characteristics-of-spec =
     tie.close
     (tie.spec
+    numbers-at-requires
     first-formed-requires
     last-formed-requires
     formed-characteristics-requires

@@ -2,8 +2,12 @@
 use borrow.Author.Needs.{needs}
 use Rattle.layout.specs.Fields.{layoutOf}
 use Rattle.envelope.specs.Announcement.{layout6G0}
+use Rattle.envelope.proofs.Fields6G0.{other-length-6g0}
 use Rattle.envelope.proofs.announcement.is_6g0.Statement.{statement}
 use Rattle.envelope.proofs.announcement.is_6g0.Tie as tie
+
+returns : tie.Need-returns
+returns c = other-length-6g0 _ (c .if1 .taken)
 
 slice-aggregate-readable : tie.Need-slice-aggregate-readable
 slice-aggregate-readable c = search needs
@@ -11,9 +15,9 @@ slice-aggregate-readable c = search needs
 readable-requires : tie.Need-readable-requires
 readable-requires c κs = search needs
 
-returns : tie.Need-returns
+returns-2 : tie.Need-returns-2
 unfolding layout6G0 layoutOf
-returns c = c .readable .ensures
+returns-2 c = c .readable .ensures
 
 pub is-6g0-spec : {M : Type 1} → statement M
-is-6g0-spec = tie.close (tie.spec slice-aggregate-readable readable-requires returns)
+is-6g0-spec = tie.close (tie.spec returns slice-aggregate-readable readable-requires returns-2)

@@ -2,12 +2,12 @@
 use borrow.Author.Needs.{needs}
 use Rattle.layout.specs.Fields.{layoutOf}
 use Rattle.envelope.specs.Application.{layout6G1}
-use Rattle.envelope.proofs.Fields6G1.{other-length}
+use Rattle.envelope.proofs.Fields6G1.{other-length-6g1}
 use Rattle.envelope.proofs.application.is_6g1.Statement.{statement}
 use Rattle.envelope.proofs.application.is_6g1.Tie as tie
 
 returns : tie.Need-returns
-returns c = other-length _ (c .if1 .taken)
+returns c = other-length-6g1 _ (c .if1 .taken)
 
 slice-aggregate-readable : tie.Need-slice-aggregate-readable
 slice-aggregate-readable c = search needs
