@@ -1,1 +1,2 @@
 pub mod Allotted
+pub mod Absent

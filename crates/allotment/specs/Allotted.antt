@@ -1,17 +1,12 @@
--- The code's allotment as document 01's. Assumes nothing.
+-- What the code's allotment gives, as document 01's. Assumes nothing.
 use mathlib.Core.Bool.{Bool, true, false, cond}
-use mathlib.Core.List.{List, map}
+use mathlib.Core.List.{List}
+use mathlib.Core.Option.{Option, none}
+use Prim.Native.Nat.{ℕ}
 use lib.Dec.{ltb}
 use Rattle.rules.specs.Allotment.{Bid, Offer, total, awards, marginalRate}
-use Rattle.rules.specs.Calls.{Allotted, notAllotted}
-use Rattle.bids.specs.Columns.{cents}
-use Rattle.marginal.specs.Ranks.{rateIn}
 use Rattle.offer.specs.Viewed.{mostBids}
-use Rattle.allotment.specs.declared.Allotment.{Allotment}
 
-abbrev pub viewed : Allotment → Bool × Allotted
-viewed a = (a .exceeds, record { awards = map cents (a .awards); marginal = rateIn (a .marginal) })
-
--- whether condition 16 refuses, with zeros and no rate if it does, and else with awards and marginal rate
-unfoldable pub allotted : Offer → List Bid → Bool × Allotted
-allotted o bs = cond (ltb mostBids (total bs)) (true, notAllotted) (false, record { awards = awards o bs; marginal = marginalRate o bs })
+-- whether condition 16 refuses, the marginal rate and the awards; if it does, there is no rate and the awards' space is as it was before
+unfoldable pub allotted : Offer → List Bid → List ℕ → Bool × Option ℕ × List ℕ
+allotted o bs before = cond (ltb mostBids (total bs)) (true, none, before) (false, marginalRate o bs, awards o bs)

@@ -1,19 +1,17 @@
 // The bids of a case, in book order.
-use places::Amount;
-use places::Rate;
 
 // Rates and amounts of 640 places: those of counterparty k, from 0 on, begin at 10 k.
 pub struct Bids {
-    pub rates: [Rate; 640],
-    pub amounts: [Amount; 640],
+    pub rates: [u32; 640],
+    pub amounts: [u64; 640],
 }
 
 impl Bids {
     // A book without bids.
     pub fn none() -> Bids {
         Bids {
-            rates: [Rate(0); 640],
-            amounts: [Amount(0); 640],
+            rates: [0u32; 640],
+            amounts: [0u64; 640],
         }
     }
 
@@ -24,22 +22,22 @@ impl Bids {
         }
         let mut rates = self.rates;
         let mut amounts = self.amounts;
-        rates[place] = Rate(rate);
-        amounts[place] = Amount(amount);
+        rates[place] = rate;
+        amounts[place] = amount;
         Bids { rates, amounts }
     }
 
     // A bid of one amount at every place, at rates that rise in book order by 0.01 percent.
     pub fn at_rising_rates(amount: u64) -> Bids {
-        let mut rates = [Rate(0); 640];
+        let mut rates = [0u32; 640];
         let mut i = 0;
         while i < 640 {
-            rates[i] = Rate((i as u32 + 1) * 1000);
+            rates[i] = (i as u32 + 1) * 1000;
             i += 1;
         }
         Bids {
             rates,
-            amounts: [Amount(amount); 640],
+            amounts: [amount; 640],
         }
     }
 }

@@ -1,12 +1,13 @@
 // What is printed of a case: its name, what is awarded, and the marginal rate or none.
 use crate::book::Bids;
-use allotment::Allotment;
-use allotment::allot;
+use allotment::internal::allot;
 use envelope::announcement::Side;
 use marginal::MarginalRate;
 use offer::Offer;
 use places::Amount;
 use places::Rate;
+ghost use mathlib.Core.Path.{_≡_};
+ghost use lib.ListN.{length};
 
 // The sum of awards, and how many are above zero.
 struct Summary {
@@ -41,10 +42,10 @@ fn print_refusal(exceeds: bool) {
     }
 }
 
-fn print_awards(awards: [Amount; 640]) {
+fn print_awards(awards: &[u64]) {
     let mut i = 0;
-    while i < 640 {
-        print_award(i, awards[i].0);
+    while i < awards.len() {
+        print_award(i, awards[i]);
         i += 1;
     }
 }
@@ -57,18 +58,27 @@ fn counted(s: Summary, cents: u64) -> Summary {
     }
 }
 
-fn summarise(awards: [Amount; 640]) -> Summary {
+fn summarise(awards: &[u64]) -> Summary {
     let mut s = Summary { sum: 0, count: 0 };
     let mut i = 0;
-    while i < 640 {
-        s = counted(s, awards[i].0);
+    while i < awards.len() {
+        s = counted(s, awards[i]);
         i += 1;
     }
     s
 }
 
-// Allots, and prints the name and whether condition 16 refuses.
-fn begin(name: &[u8], side: Side, limit: u32, offered: u64, b: Bids) -> Allotment {
+// Allots, writes the awards, and prints the name and whether condition 16 refuses.
+fn begin(
+    name: &[u8],
+    side: Side,
+    limit: u32,
+    offered: u64,
+    b: Bids,
+    awards: &mut [u64],
+) -> MarginalRate
+    requires { ⌜ length (now awards) ≡ 640 ⌝ }
+{
     let o = Offer {
         side,
         limit: Rate(limit),
@@ -76,32 +86,30 @@ fn begin(name: &[u8], side: Side, limit: u32, offered: u64, b: Bids) -> Allotmen
     };
     let rates = b.rates;
     let amounts = b.amounts;
-    let a = allot(o, rates, amounts);
+    let a = allot(o, &rates, &amounts, awards);
     printing::text(name);
     print_refusal(a.exceeds);
-    a
+    a.marginal
 }
 
 // A case with each of its awards.
 pub fn case(name: &[u8], side: Side, limit: u32, offered: u64, b: Bids) {
-    let a = begin(name, side, limit, offered, b);
-    let awards = a.awards;
-    let marginal = a.marginal;
-    print_awards(awards);
+    let mut awards = [0u64; 640];
+    let marginal = begin(name, side, limit, offered, b, &mut awards);
+    print_awards(&awards);
     print_marginal_rate(marginal);
 }
 
 // A case with too many awards to print each of them: their sum, how many there are, and those at the first and the last place.
 pub fn summed(name: &[u8], side: Side, limit: u32, offered: u64, b: Bids) {
-    let a = begin(name, side, limit, offered, b);
-    let awards = a.awards;
-    let marginal = a.marginal;
-    let s = summarise(awards);
+    let mut awards = [0u64; 640];
+    let marginal = begin(name, side, limit, offered, b, &mut awards);
+    let s = summarise(&awards);
     printing::text(b" sum");
     printing::number(s.sum);
     printing::text(b" awards");
     printing::number(s.count);
-    print_award(0, awards[0].0);
-    print_award(639, awards[639].0);
+    print_award(0, awards[0]);
+    print_award(639, awards[639]);
     print_marginal_rate(marginal);
 }

@@ -2,8 +2,6 @@
 use crate::book::Bids;
 use crate::line::summed;
 use envelope::announcement::Side;
-use places::Amount;
-use places::Rate;
 
 const WIDEST: u64 = 999_999_999_999_999;
 
@@ -13,8 +11,8 @@ const HALF: u64 = 319_999_999_999_999_685;
 // One bid's amount shared by 640; then at 640 rates an offer that the best bid meets, and one that half of them nearly do.
 pub fn full_books() {
     let level = Bids {
-        rates: [Rate(120000); 640],
-        amounts: [Amount(WIDEST); 640],
+        rates: [120000u32; 640],
+        amounts: [WIDEST; 640],
     };
     let rising = Bids::at_rising_rates(WIDEST);
     summed(b"one rate", Side::Lp, 120000, WIDEST, level);

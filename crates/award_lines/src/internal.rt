@@ -1,36 +1,36 @@
 // Lines written into a lent space from an index on.
-use book::Book;
-use book::up_to_64;
-use digits::internal::put_digits;
 use output::internal::put;
 use output::internal::put_byte;
 use places::Amount;
 use places::Rate;
+use words::internal::put_digits;
 ghost use mathlib.Core.Path.{_≡_};
 ghost use mathlib.Core.Bool.{cond};
-ghost use mathlib.Core.List.{[], map};
-ghost use Prim.Native.Nat.{_+_, _≤_};
+ghost use mathlib.Core.List.{List, []};
+ghost use Prim.Native.Nat.{ℕ, _+_, _*_, _≤_};
 ghost use lib.Dec.{ltb};
 ghost use lib.ListN.{length};
 ghost use Rattle.output.specs.Output.{Wrote};
-ghost use Rattle.bids.specs.Columns.{cents};
-ghost use Rattle.book.specs.Viewed.{viewed};
+ghost use Rattle.rules.specs.Calls.{bidsInBook};
+ghost use Rattle.bids.specs.Columns.{bidsOf};
+ghost use Rattle.book.specs.declared.Book.{Book};
+ghost use Rattle.book.specs.Viewed.{viewed, codesIn};
 ghost use Rattle.log.specs.Lines.{awardLine, awardLines};
 ghost use Rattle.award_lines.specs.Places.{placeText};
 
 // Writes code and place of an award.
-fn put_place(space: &mut [u8], at: usize, code: u64, place: u64) -> usize
+fn put_place(space: &mut [u8], at: usize, code: u32, place: u64) -> usize
     requires { ⌜ at + 10 ≤ length (now space) ⌝ }
     ensures { λ r. ⌜ Wrote (now (space .entry)) at (placeText code place) (now (space .exit)) r × (r ≡ at + 10) ⌝ }
 {
     let number = put(space, at, b"W ");
-    let blank = put_digits(space, number, 5, code);
+    let blank = put_digits(space, number, 5, code as u64);
     let second = put_byte(space, blank, b' ');
     put_digits(space, second, 2, place)
 }
 
 // Writes the line of an award.
-fn put_award(space: &mut [u8], at: usize, code: u64, place: u64, rate: Rate, award: Amount) -> usize
+fn put_award(space: &mut [u8], at: usize, code: u32, place: u64, rate: Rate, award: Amount) -> usize
     requires { ⌜ at + 36 ≤ length (now space) ⌝ }
     ensures { λ r. ⌜ Wrote (now (space .entry)) at (awardLine code place (rate .0) (award .0)) (now (space .exit)) r × (r ≡ at + 36) ⌝ }
 {
@@ -46,7 +46,7 @@ fn put_award(space: &mut [u8], at: usize, code: u64, place: u64, rate: Rate, awa
 fn put_if_any(
     space: &mut [u8],
     at: usize,
-    code: u64,
+    code: u32,
     place: u64,
     rate: Rate,
     award: Amount,
@@ -61,17 +61,16 @@ fn put_if_any(
 }
 
 // Writes the lines of all awards above zero, in book order, at the start of the space.
-pub fn put_awards(space: &mut [u8], b: Book, awards: [Amount; 640]) -> usize
-    requires { ⌜ 23040 ≤ length (now space) ⌝ }
-    ensures { λ r. ⌜ Wrote (now (space .entry)) 0 (awardLines (viewed b) (map cents awards)) (now (space .exit)) r ⌝ }
+pub fn put_awards(space: &mut [u8], codes: &[u32], rates: &[u32], awards: &[u64]) -> usize
+    requires { ⌜ (length (now rates) ≡ 10 * length (now codes)) × (length (now awards) ≡ 10 * length (now codes)) × (36 * length (now awards) ≤ length (now space)) ⌝ }
+    ensures { λ r. ⌜ ((b : Book) (amounts : List ℕ) → codesIn (viewed b) ≡ now (codes .entry) → bidsOf (now (rates .entry)) amounts ≡ bidsInBook (viewed b) → Wrote (now (space .entry)) 0 (awardLines (viewed b) (now (awards .entry))) (now (space .exit)) r) ⌝ }
 {
-    let end = 10 * up_to_64(b.n);
     let mut at = 0;
     let mut i = 0;
-    while i < end {
-        let code = b.codes[i / 10] as u64;
-        let rate = b.rates[i];
-        let award = awards[i];
+    while i < awards.len() {
+        let code = codes[i / 10];
+        let rate = Rate(rates[i]);
+        let award = Amount(awards[i]);
         at = put_if_any(space, at, code, (i % 10 + 1) as u64, rate, award);
         i += 1;
     }

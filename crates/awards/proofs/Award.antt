@@ -9,7 +9,6 @@ use lib.Dec.{leb, ltb, eqb}
 use lib.ListN.{length}
 use borrow.Author.Tests.{ltb-true, ltb-false, leb-false, lt-ltb, le-ltb, eq-eqb, ne-eqb}
 use Rattle.envelope.specs.declared.announcement.Side.{Side}
-use Rattle.places.specs.declared.Amount.{Amount}
 use Rattle.rules.specs.Allotment.{
   Bid,
   Offer,
@@ -31,8 +30,8 @@ use Rattle.rules.proofs.Division.{share-is}
 use Rattle.rules.proofs.Kept.{total-split}
 use Rattle.rules.proofs.Rates.{not-itself, same-rate, notWorse, split-rate}
 use Rattle.rules.proofs.Sum.{equal-in, equal-rate, award-out}
-use Rattle.offer.proofs.Totals.{keep-le}
-use Rattle.awards.specs.LastRate.{sharedOut, served, servedAll, sharedAt, centsAt, LastRate}
+use Rattle.offer.proofs.Sums.{keep-le}
+use Rattle.awards.specs.LastRate.{sharedOut, served, servedAll, sharedAt, centsAt, servedIn, centsIn, LastRate}
 
 -- a better or worse rate is another one
 better-other : (d : Side) (x r : ℕ) → betterRate d x r ≡ true → eqb x r ≡ false
@@ -49,7 +48,7 @@ more-left n l = go (ltb n l) refl
     go true e = sym (lt-ltb 0 (l - n) (omega (arith, ltb-true)))
     go false e = sym (le-ltb 0 (l - n) (omega (arith, ltb-false)))
 
-none-left : (n : ℕ) → ltb 0 (0 - n) ≡ false
+pub none-left : (n : ℕ) → ltb 0 (0 - n) ≡ false
 none-left n = le-ltb 0 (0 - n) (omega arith)
 
 -- no bid is served more than its amount
@@ -86,15 +85,12 @@ module _ (o : Offer) (bs : List Bid) (r : ℕ) where
   abbrev equal : ℕ
   equal = totalEqual o bs r
 
-  -- what a bid is served where r is the last rate, the cents left apart, and those cents
-  abbrev pub servedIn : Bid → ℕ
-  servedIn x = served o r (totalBetter o bs r) (totalEqual o bs r) x
-
-  abbrev pub centsIn : ℕ
-  centsIn = centsAt (o .offered) (totalBetter o bs r) (totalEqual o bs r) (sharedAt o r (totalBetter o bs r) (totalEqual o bs r) bs)
+  -- what a bid is served where r is the last rate, the cents left apart
+  abbrev pub bidServed : Bid → ℕ
+  bidServed x = served o r (totalBetter o bs r) (totalEqual o bs r) x
 
   -- what a bid at the last rate is served
-  served-equal : (x : Bid) → isEqual o r x ≡ true → servedIn x ≡ sharedOut (o .offered) better equal (x .amount)
+  served-equal : (x : Bid) → isEqual o r x ≡ true → bidServed x ≡ sharedOut (o .offered) better equal (x .amount)
   unfolding served
   served-equal x h =
       let e = equal-rate o bs r x h in
@@ -111,22 +107,22 @@ module _ (o : Offer) (bs : List Bid) (r : ℕ) where
   shared-is s t [] = refl
   shared-is s t (x ∷ xs) = go (isEqual o r x) refl (shared-is s t xs)
     where
-      here : isEqual o r x ≡ true → servedIn x ≡ share o bs r (x .amount)
+      here : isEqual o r x ≡ true → bidServed x ≡ share o bs r (x .amount)
       here h = served-equal x h ∙ rw (s, t) (sym (share-is o bs r (x .amount)))
 
       go : (l : Bool) → isEqual o r x ≡ l → sharedAt o r better equal xs ≡ shares o bs r (keep (isEqual o r) xs)
-          → cond l (servedIn x) 0 + sharedAt o r better equal xs
+          → cond l (bidServed x) 0 + sharedAt o r better equal xs
           ≡ shares o bs r (cond l (x ∷ keep (isEqual o r) xs) (keep (isEqual o r) xs))
       go true h ih = omega (arith, here h)
       go false h ih = omega arith
 
   -- the award of a bid at the last rate
   award-equal : (before : List Bid) (x : Bid) → isEqual o r x ≡ true
-      → award o bs before x ≡ servedIn x + cond (ltb 0 (centsIn - length (keep (isEqual o r) before))) 1 0
+      → award o bs before x ≡ bidServed x + cond (ltb 0 (centsIn o bs r - length (keep (isEqual o r) before))) 1 0
   unfolding award sharedOut centsAt cent centsLeft
   award-equal before x h =
       at-rate ∙ go (leb (better + equal) (o .offered)) refl (leb (o .offered) better) refl
-      ∙ ap (λ (v : ℕ). v + cond (ltb 0 (centsIn - length (keep (isEqual o r) before))) 1 0) (sym (served-equal x h))
+      ∙ ap (λ (v : ℕ). v + cond (ltb 0 (centsIn o bs r - length (keep (isEqual o r) before))) 1 0) (sym (served-equal x h))
     where
       awarded : ℕ
       awarded =
@@ -137,7 +133,7 @@ module _ (o : Offer) (bs : List Bid) (r : ℕ) where
       at-rate = rw (equal-in o bs r x h, equal-rate o bs r x h)
 
       go : (s : Bool) → leb (better + equal) (o .offered) ≡ s → (t : Bool) → leb (o .offered) better ≡ t
-          → awarded ≡ sharedOut (o .offered) better equal (x .amount) + cond (ltb 0 (centsIn - length (keep (isEqual o r) before))) 1 0
+          → awarded ≡ sharedOut (o .offered) better equal (x .amount) + cond (ltb 0 (centsIn o bs r - length (keep (isEqual o r) before))) 1 0
       go true es t et = rw (es, none-left (length (keep (isEqual o r) before))) (omega arith)
       go false es true et = rw (es, et, none-left (length (keep (isEqual o r) before))) (omega arith)
       go false es false et =
@@ -151,25 +147,24 @@ module _ (o : Offer) (bs : List Bid) (r : ℕ) where
 
   -- the award of a bid at any rate
   pub bid-award : LastRate o bs r → (before : List Bid) (x : Bid) → List·Memᴰ x bs
-      → award o bs before x ≡ servedIn x + cond (isEqual o r x && ltb 0 (centsIn - length (keep (isEqual o r) before))) 1 0
+      → award o bs before x ≡ bidServed x + cond (isEqual o r x && ltb 0 (centsIn o bs r - length (keep (isEqual o r) before))) 1 0
   unfolding served isEqual
   bid-award last before x m = go (isIn o x) refl (betterRate (o .side) (x .rate) r) refl (betterRate (o .side) r (x .rate)) refl
     where
       go : (i : Bool) → isIn o x ≡ i → (s : Bool) → betterRate (o .side) (x .rate) r ≡ s → (t : Bool) → betterRate (o .side) r (x .rate) ≡ t
-          → award o bs before x ≡ servedIn x + cond (isEqual o r x && ltb 0 (centsIn - length (keep (isEqual o r) before))) 1 0
+          → award o bs before x ≡ bidServed x + cond (isEqual o r x && ltb 0 (centsIn o bs r - length (keep (isEqual o r) before))) 1 0
       go false i s es t et = award-out o bs before x i ∙ rw i
       go true i true es t et = last before x m i .0 es ∙ rw (i, es, better-other (o .side) (x .rate) r es) (omega arith)
       go true i false es true et = last before x m i .1 et ∙ rw (i, es, et, worse-other (o .side) (x .rate) r et)
       go true i false es false et =
           let e : isEqual o r x ≡ true = rw (i, eq-eqb (x .rate) r (same-rate (o .side) (x .rate) r es et)) in
-          award-equal before x e ∙ ap (λ (t : Bool). servedIn x + cond (t && ltb 0 (centsIn - length (keep (isEqual o r) before))) 1 0) (sym e)
+          award-equal before x e ∙ ap (λ (t : Bool). bidServed x + cond (t && ltb 0 (centsIn o bs r - length (keep (isEqual o r) before))) 1 0) (sym e)
 
   -- what all are served and the cents left, from totals known by equations
-  pub served-are : (b e : ℕ) (xs : List Amount) → b ≡ totalBetter o bs r → e ≡ totalEqual o bs r → xs ≡ servedAll o r b e bs
-      → xs ≡ servedAll o r (totalBetter o bs r) (totalEqual o bs r) bs
+  pub served-are : (b e : ℕ) (xs : List ℕ) → b ≡ totalBetter o bs r → e ≡ totalEqual o bs r → xs ≡ servedAll o r b e bs → xs ≡ servedIn o bs r
   served-are b e xs p q h = h ∙ ap₂ (λ (x y : ℕ). servedAll o r x y bs) p q
 
   pub cents-are : (b e shared n : ℕ) → b ≡ totalBetter o bs r → e ≡ totalEqual o bs r → shared ≡ sharedAt o r b e bs
-      → n ≡ centsAt (o .offered) b e shared → n ≡ centsIn
+      → n ≡ centsAt (o .offered) b e shared → n ≡ centsIn o bs r
   cents-are b e shared n p q h k =
       k ∙ ap (centsAt (o .offered) b e) h ∙ ap₂ (λ (x y : ℕ). centsAt (o .offered) x y (sharedAt o r x y bs)) p q

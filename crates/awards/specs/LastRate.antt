@@ -5,11 +5,7 @@ use mathlib.Core.List.{List, [], _∷_, map, List·Memᴰ}
 use mathlib.Core.Option.{Option, none, some}
 use Prim.Native.Nat.{ℕ, _+_, _-_, _*_, _/_}
 use lib.Dec.{leb}
-use Rattle.places.specs.declared.Amount.{Amount}
-use Rattle.rules.specs.Allotment.{Bid, Offer, betterRate, isIn, isEqual, award}
-
-abbrev pub amountOf : ℕ → Amount
-amountOf n = record { 0 = n }
+use Rattle.rules.specs.Allotment.{Bid, Offer, betterRate, isIn, isEqual, totalBetter, totalEqual, award}
 
 -- at the last rate: what an amount gets, the cents left apart, of q offered, where b is the total at better rates and e that at this one
 unfoldable pub sharedOut : ℕ → ℕ → ℕ → ℕ → ℕ
@@ -23,8 +19,8 @@ served o r b e x =
     (cond (betterRate (o .side) r (x .rate)) 0
     (sharedOut (o .offered) b e (x .amount)))) 0
 
-unfoldable pub servedAll : Offer → ℕ → ℕ → ℕ → List Bid → List Amount
-servedAll o r b e bs = map (λ (x : Bid). amountOf (served o r b e x)) bs
+unfoldable pub servedAll : Offer → ℕ → ℕ → ℕ → List Bid → List ℕ
+servedAll o r b e bs = map (served o r b e) bs
 
 -- what the bids at the last rate are served together
 unfoldable pub sharedAt : Offer → ℕ → ℕ → ℕ → List Bid → ℕ
@@ -34,6 +30,13 @@ sharedAt o r b e (x ∷ bs) = cond (isEqual o r x) (served o r b e x) 0 + shared
 -- the cents left there, where s is what its bids are served together
 unfoldable pub centsAt : ℕ → ℕ → ℕ → ℕ → ℕ
 centsAt q b e s = cond (leb (b + e) q) 0 (cond (leb q b) 0 ((q - b) - s))
+
+-- what all are served and the cents left, by the totals of the bids
+abbrev pub servedIn : Offer → List Bid → ℕ → List ℕ
+servedIn o bs r = servedAll o r (totalBetter o bs r) (totalEqual o bs r) bs
+
+abbrev pub centsIn : Offer → List Bid → ℕ → ℕ
+centsIn o bs r = centsAt (o .offered) (totalBetter o bs r) (totalEqual o bs r) (sharedAt o r (totalBetter o bs r) (totalEqual o bs r) bs)
 
 -- r is the last rate served: bids in at better rates are awarded in full, at worse rates nothing
 abbrev pub LastRate : Offer → List Bid → ℕ → Type 0

@@ -1,11 +1,9 @@
-// Awards around the last rate served, for a book that condition 16 allows. In every function q is the amount offered, b the total at rates better than
+// Awards around the last rate served, for bids that condition 16 allows. In every function q is the amount offered, b the total at rates better than
 // the last one and e the total at it.
-use crate::Served;
 use bids::Bid;
 use division::internal::divide;
 use offer::Offer;
-use offer::internal::total_better;
-use offer::internal::total_equal;
+use offer::internal::totals;
 use offer::internal::where_holds;
 use offer::is_better;
 use offer::is_in;
@@ -14,14 +12,15 @@ use places::Amount;
 use places::Rate;
 ghost use mathlib.Core.Path.{_≡_};
 ghost use mathlib.Core.Bool.{cond, _&&_};
-ghost use mathlib.Core.List.{map};
 ghost use Prim.Native.Nat.{_+_, _≤_};
 ghost use lib.Dec.{ltb};
-ghost use Rattle.rules.specs.Allotment.{isEqual, total, totalBetter, totalEqual, awards};
-ghost use Rattle.bids.specs.Columns.{bidsFrom};
+ghost use lib.ListN.{length};
+ghost use Rattle.rules.specs.Allotment.{isEqual, total};
+ghost use Rattle.rules.specs.Allotment as rules;
+ghost use Rattle.bids.specs.Columns.{bidsOf};
 ghost use Rattle.bids.specs.Columns as columns;
 ghost use Rattle.offer.specs.Viewed.{viewed, mostBids};
-ghost use Rattle.awards.specs.LastRate.{amountOf, sharedOut, served, servedAll, sharedAt, centsAt, LastRate};
+ghost use Rattle.awards.specs.LastRate.{sharedOut, served, servedAll, sharedAt, centsAt, servedIn, centsIn, LastRate};
 
 // What an amount at the last rate gets, the cents left apart.
 fn shared_out(q: Amount, b: Amount, e: Amount, amount: Amount) -> Amount
@@ -38,7 +37,7 @@ fn shared_out(q: Amount, b: Amount, e: Amount, amount: Amount) -> Amount
     divide(amount, left, e).quotient
 }
 
-// What a place is served, the cents left apart.
+// What a bid is served, the cents left apart.
 fn serve(o: Offer, bid: Bid, last: Rate, b: Amount, e: Amount) -> Amount
     requires { ⌜ b .0 + e .0 ≤ mostBids ⌝ }
     ensures { λ r. ⌜ r .0 ≡ served (viewed o) (last .0) (b .0) (e .0) (columns.viewed bid) ⌝ }
@@ -73,7 +72,7 @@ fn cents_left(q: Amount, b: Amount, e: Amount, shared: u64) -> u64
     q.0 - b.0 - shared
 }
 
-// The cent that a place gets, where so many are left.
+// The cent that a bid gets, where so many are left.
 fn cent(o: Offer, bid: Bid, last: Rate, left: u64) -> u64
     ensures { λ r. ⌜ (r ≡ cond (isEqual (viewed o) (last .0) (columns.viewed bid) && ltb 0 left) 1 0) × (r ≤ left) × (r ≤ 1) ⌝ }
 {
@@ -85,77 +84,75 @@ fn cent(o: Offer, bid: Bid, last: Rate, left: u64) -> u64
     0
 }
 
-// What all places are served, the cents left apart.
+// Writes what all bids are served, the cents left apart, and gives what those at the last rate are served together.
 fn serve_all(
     o: Offer,
-    rates: [Rate; 640],
-    amounts: [Amount; 640],
+    rates: &[u32],
+    amounts: &[u64],
     last: Rate,
     b: Amount,
     e: Amount,
-) -> Served
-    requires { ⌜ total (bidsFrom rates amounts 0 640) ≤ mostBids ⌝ }
+    awards: &mut [u64],
+) -> u64
+    requires { ⌜ length (now rates) ≡ length (now amounts) ⌝ }
+    requires { ⌜ length (now awards) ≡ length (now amounts) ⌝ }
+    requires { ⌜ total (bidsOf (now rates) (now amounts)) ≤ mostBids ⌝ }
     requires { ⌜ b .0 + e .0 ≤ mostBids ⌝ }
-    ensures { λ r. ⌜ (r .awards ≡ servedAll (viewed o) (last .0) (b .0) (e .0) (bidsFrom rates amounts 0 640)) × (r .shared ≡ sharedAt (viewed o) (last .0) (b .0) (e .0) (bidsFrom rates amounts 0 640)) ⌝ }
+    ensures { λ r. ⌜ (now (awards .exit) ≡ servedAll (viewed o) (last .0) (b .0) (e .0) (bidsOf (now (rates .entry)) (now (amounts .entry)))) × (r ≡ sharedAt (viewed o) (last .0) (b .0) (e .0) (bidsOf (now (rates .entry)) (now (amounts .entry)))) ⌝ }
 {
-    let mut awards = [Amount(0); 640];
     let mut shared = 0;
     let mut i = 0;
-    while i < 640 {
+    while i < amounts.len() {
         let bid = Bid {
-            rate: rates[i],
-            amount: amounts[i],
+            rate: Rate(rates[i]),
+            amount: Amount(amounts[i]),
         };
         let award = serve(o, bid, last, b, e);
-        awards[i] = award;
+        awards[i] = award.0;
         shared += where_holds(stands_equal(o, bid, last), award.0);
         i += 1;
     }
-    Served { awards, shared }
+    shared
 }
 
-// The cents left, one to each place at the last rate, in book order.
-fn add_cents(
-    o: Offer,
-    rates: [Rate; 640],
-    amounts: [Amount; 640],
-    last: Rate,
-    cents: u64,
-    before: [Amount; 640],
-) -> [Amount; 640]
-    requires { ⌜ total (bidsFrom rates amounts 0 640) ≤ mostBids ⌝ }
-    requires { ⌜ LastRate (viewed o) (bidsFrom rates amounts 0 640) (last .0) ⌝ }
-    requires { ⌜ cents ≡ centsAt (o .offered .0) (totalBetter (viewed o) (bidsFrom rates amounts 0 640) (last .0)) (totalEqual (viewed o) (bidsFrom rates amounts 0 640) (last .0)) (sharedAt (viewed o) (last .0) (totalBetter (viewed o) (bidsFrom rates amounts 0 640) (last .0)) (totalEqual (viewed o) (bidsFrom rates amounts 0 640) (last .0)) (bidsFrom rates amounts 0 640)) ⌝ }
-    requires { ⌜ before ≡ servedAll (viewed o) (last .0) (totalBetter (viewed o) (bidsFrom rates amounts 0 640) (last .0)) (totalEqual (viewed o) (bidsFrom rates amounts 0 640) (last .0)) (bidsFrom rates amounts 0 640) ⌝ }
-    ensures { λ r. ⌜ r ≡ map amountOf (awards (viewed o) (bidsFrom rates amounts 0 640)) ⌝ }
+// Adds the cents left, one to each bid at the last rate, in book order.
+fn add_cents(o: Offer, rates: &[u32], amounts: &[u64], last: Rate, cents: u64, awards: &mut [u64])
+    requires { ⌜ length (now rates) ≡ length (now amounts) ⌝ }
+    requires { ⌜ total (bidsOf (now rates) (now amounts)) ≤ mostBids ⌝ }
+    requires { ⌜ LastRate (viewed o) (bidsOf (now rates) (now amounts)) (last .0) ⌝ }
+    requires { ⌜ cents ≡ centsIn (viewed o) (bidsOf (now rates) (now amounts)) (last .0) ⌝ }
+    requires { ⌜ now awards ≡ servedIn (viewed o) (bidsOf (now rates) (now amounts)) (last .0) ⌝ }
+    ensures { λ _. ⌜ now (awards .exit) ≡ rules.awards (viewed o) (bidsOf (now (rates .entry)) (now (amounts .entry))) ⌝ }
 {
-    let mut awards = before;
     let mut left = cents;
     let mut i = 0;
-    while i < 640 {
+    while i < amounts.len() {
         let bid = Bid {
-            rate: rates[i],
-            amount: amounts[i],
+            rate: Rate(rates[i]),
+            amount: Amount(amounts[i]),
         };
         let c = cent(o, bid, last, left);
-        let award = Amount(awards[i].0 + c);
-        awards[i] = award;
+        awards[i] = awards[i] + c;
         left -= c;
         i += 1;
     }
-    awards
 }
 
-// The awards of all places, in book order.
-pub fn awards_at(o: Offer, rates: [Rate; 640], amounts: [Amount; 640], last: Rate) -> [Amount; 640]
-    requires { ⌜ total (bidsFrom rates amounts 0 640) ≤ mostBids ⌝ }
-    requires { ⌜ LastRate (viewed o) (bidsFrom rates amounts 0 640) (last .0) ⌝ }
-    ensures { λ r. ⌜ r ≡ map amountOf (awards (viewed o) (bidsFrom rates amounts 0 640)) ⌝ }
+// Writes the awards of all bids, in book order.
+pub fn awards_at(o: Offer, rates: &[u32], amounts: &[u64], last: Rate, awards: &mut [u64])
+    requires { ⌜ length (now rates) ≡ length (now amounts) ⌝ }
+    requires { ⌜ length (now awards) ≡ length (now amounts) ⌝ }
+    requires { ⌜ total (bidsOf (now rates) (now amounts)) ≤ mostBids ⌝ }
+    requires { ⌜ LastRate (viewed o) (bidsOf (now rates) (now amounts)) (last .0) ⌝ }
+    ensures { λ _. ⌜ now (awards .exit) ≡ rules.awards (viewed o) (bidsOf (now (rates .entry)) (now (amounts .entry))) ⌝ }
 {
-    let b = total_better(o, rates, amounts, last);
-    let e = total_equal(o, rates, amounts, last);
-    let s = serve_all(o, rates, amounts, last, b, e);
-    let cents = cents_left(o.offered, b, e, s.shared);
-    let before = s.awards;
-    add_cents(o, rates, amounts, last, cents, before)
+    let t = totals(o, rates, amounts, last);
+    let b = t.better;
+    let e = t.equal;
+    let shared = serve_all(o, rates, amounts, last, b, e, awards);
+    let cents = cents_left(o.offered, b, e, shared);
+    if cents == 0 {
+        return;
+    }
+    add_cents(o, rates, amounts, last, cents, awards);
 }

@@ -1,10 +1,10 @@
 -- Bids in columns: windows of them, and one bid of a window. Assumes nothing.
 use mathlib.Core.Path.{_≡_, refl, sym, ap, _∙_}
-use mathlib.Core.List.{List, [], _∷_, _++_, map, List·Memᴰ, List·Memᴰ·head, List·Memᴰ·tail}
-use Prim.Native.Nat.{ℕ, zero, suc, _+_, _≤_, _<_}
+use mathlib.Core.List.{List, [], _∷_, _++_, map}
+use Prim.Native.Nat.{ℕ, zero, suc, _+_, _<_}
 use native.Mathlib.Nat.{zero-add, add-zero, suc-add, add-suc}
 use native.Mathlib.Omega.{arith}
-use lib.ListN.{length, getD, take, drop}
+use lib.ListN.{length, getD, drop}
 use Rattle.places.specs.declared.Rate.{Rate}
 use Rattle.places.specs.declared.Amount.{Amount}
 use Rattle.places.specs.declared.Place.{Place}
@@ -35,30 +35,7 @@ bid-in rates amounts i (suc d) (suc k) h = bid-in rates amounts (suc i) d k (ome
 pub bid-is : (rates : List Rate) (amounts : List Amount) (d k : ℕ) → k < d → getD (bidsFrom rates amounts 0 d) k noBid ≡ bidAt rates amounts k
 bid-is rates amounts d k h = bid-in rates amounts 0 d k h ∙ rw zero-add
 
--- the first k of a window
-pub bids-first : (rates : List Rate) (amounts : List Amount) (i d k : ℕ) → k ≤ d → take k (bidsFrom rates amounts i d) ≡ bidsFrom rates amounts i k
-unfolding bidsFrom
-bids-first rates amounts i d zero h = refl
-bids-first rates amounts i zero (suc k) h = absurd (omega arith)
-bids-first rates amounts i (suc d) (suc k) h = ap (λ (l : List Bid). bidAt rates amounts i ∷ l) (bids-first rates amounts (suc i) d k (omega arith))
-
-member : (rates : List Rate) (amounts : List Amount) (i d k n : ℕ) → k < d → n ≡ i + k → List·Memᴰ (bidAt rates amounts n) (bidsFrom rates amounts i d)
-unfolding bidsFrom
-member rates amounts i zero k n h e = absurd (omega arith)
-member rates amounts i (suc d) zero n h e = List·Memᴰ·head (ap (bidAt rates amounts) (e ∙ add-zero i))
-member rates amounts i (suc d) (suc k) n h e = List·Memᴰ·tail (member rates amounts (suc i) d k n (omega arith) (omega arith))
-
--- a bid of the columns is one of the list
-pub bid-member : (rates : List Rate) (amounts : List Amount) (d k : ℕ) → k < d → List·Memᴰ (bidAt rates amounts k) (bidsFrom rates amounts 0 d)
-bid-member rates amounts d k h = member rates amounts 0 d k k h (omega arith)
-
--- one more bid
-pub bids-more : (rates : List Rate) (amounts : List Amount) (k : ℕ)
-    → bidsFrom rates amounts 0 (k + 1) ≡ bidsFrom rates amounts 0 k ++ (bidAt rates amounts k ∷ [])
-unfolding bidsFrom
-bids-more rates amounts k = bids-add rates amounts 0 k 1 ∙ rw zero-add
-
-bids-shifted : (r : Rate) (rs : List Rate) (x : Amount) (xs : List Amount) (i d : ℕ) → bidsFrom (r ∷ rs) (x ∷ xs) (suc i) d ≡ bidsFrom rs xs i d
+pub bids-shifted : (r : Rate) (rs : List Rate) (x : Amount) (xs : List Amount) (i d : ℕ) → bidsFrom (r ∷ rs) (x ∷ xs) (suc i) d ≡ bidsFrom rs xs i d
 unfolding bidsFrom
 bids-shifted r rs x xs i zero = refl
 bids-shifted r rs x xs i (suc d) = ap (λ (l : List Bid). bidAt rs xs i ∷ l) (bids-shifted r rs x xs (suc i) d)

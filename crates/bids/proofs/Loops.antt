@@ -59,7 +59,7 @@ unfolding keep
 count-end bs k h = rw (drop-of-length-le bs h) refl
 
 -- the loop over a total: an amount above what is left, or a rest above what it leaves, is a total above it
-above-step : (left a t : ℕ) (b d : Bool) → ltb left a ≡ b → ltb (left - a) t ≡ d → (b || d) ≡ ltb left (a + t)
+pub above-step : (left a t : ℕ) (b d : Bool) → ltb left a ≡ b → ltb (left - a) t ≡ d → (b || d) ≡ ltb left (a + t)
 above-step left a t true d h k = sym (lt-ltb left (a + t) (omega (arith, ltb-true left a h)))
 above-step left a t false true h k = sym (lt-ltb left (a + t) (omega (arith, ltb-true (left - a) t k, ltb-false left a h)))
 above-step left a t false false h k = sym (le-ltb left (a + t) (omega (arith, ltb-false (left - a) t k, ltb-false left a h)))

@@ -27,3 +27,9 @@ bidAt rates amounts i = record { rate = getD rates i noRate .0; amount = getD am
 unfoldable pub bidsFrom : List Rate → List Amount → ℕ → ℕ → List rules.Bid
 bidsFrom rates amounts i zero = []
 bidsFrom rates amounts i (suc d) = bidAt rates amounts i ∷ bidsFrom rates amounts (suc i) d
+
+-- rates and amounts side by side, as bids
+unfoldable pub bidsOf : List ℕ → List ℕ → List rules.Bid
+bidsOf [] amounts = []
+bidsOf (r ∷ rates) [] = []
+bidsOf (r ∷ rates) (a ∷ amounts) = record { rate = r; amount = a } ∷ bidsOf rates amounts

@@ -1,20 +1,19 @@
--- The places of the arrays are the bids of the entries, in book order. Assumes nothing.
+-- The places of the arrays are the bids of the entries, in book order, and are written as numbers. Assumes nothing.
 use mathlib.Core.Path.{_≡_, refl, sym, ap, ap₂, _∙_}
-use mathlib.Core.List.{List, [], _∷_, _++_}
-use Prim.Native.Nat.{ℕ, zero, suc, _+_, _-_, _*_, _≤_, _<_}
+use mathlib.Core.List.{List, [], _∷_, _++_, map, append-nil}
+use Prim.Native.Nat.{ℕ, zero, suc, _+_, _*_, _≤_, _<_}
 use native.Mathlib.Omega.{arith}
-use native.Mathlib.Nat.{le-refl}
-use lib.ListN.{length, getD, take, drop, replicate, List·getD-append}
-use lib.Seq.{length-take-le, getD-take, getD-drop, getD-append-add}
+use lib.ListN.{length, getD, take, drop, drop-of-length-le}
+use lib.Seq.{drop-cons}
 use Rattle.places.specs.declared.Rate.{Rate}
 use Rattle.places.specs.declared.Amount.{Amount}
-use Rattle.rules.specs.Allotment.{Bid, noBid}
-use Rattle.rules.specs.Calls.{bidsInBook, places640}
-use Rattle.bids.proofs.Columns.{bids-add, length-bids}
+use Rattle.rules.specs.Allotment.{Bid}
+use Rattle.rules.specs.Calls.{bidsInBook}
+use Rattle.bids.specs.Columns.{bidsFrom, bidsOf, cents}
+use Rattle.bids.proofs.Columns.{bids-add, bids-shifted}
 use Rattle.book.specs.declared.Book.{Book}
-use Rattle.bids.specs.Columns.{noRate, noAmount, bidsFrom}
-use Rattle.book.specs.Viewed.{entryAt, entriesFrom, upTo64, viewed}
-use Rattle.book.proofs.Empty.{all-default, upTo64-small}
+use Rattle.book.specs.Viewed.{entryAt, entriesFrom, upTo64, viewed, codesIn}
+use Rattle.book.proofs.Empty.{upTo64-small}
 
 bids-nothing : (rs : List Rate) (xs : List Amount) (i : ℕ) → bidsFrom rs xs i (10 * zero) ≡ []
 unfolding bidsFrom
@@ -36,68 +35,48 @@ bids-entries b i (suc d) =
     more = omega arith
 
 -- the bids of the entries are the first places of the arrays
-pub bids-viewed : (b : Book) → bidsInBook (viewed b) ≡ bidsFrom (b .rates) (b .amounts) 0 (10 * upTo64 (b .n))
+bids-viewed : (b : Book) → bidsInBook (viewed b) ≡ bidsFrom (b .rates) (b .amounts) 0 (10 * upTo64 (b .n))
 unfolding viewed
 bids-viewed b = bids-entries b 0 (upTo64 (b .n))
 
-module _ {A : Type 0} (e : ℕ) (l : List A) (d : A) (h : e ≤ length l) where
-  front-low : (z : List A) (j : ℕ) → j < e → getD (take e l ++ drop e z) j d ≡ getD l j d
-  front-low z j k = List·getD-append (take e l) (drop e z) d j (omega (arith, length-take-le e l h)) ∙ getD-take e l j d k
+codes-first : (b : Book) (i d : ℕ) → i + d ≤ length (b .codes) → codesIn (entriesFrom b i d) ≡ take d (drop i (b .codes))
+unfolding codesIn entriesFrom entryAt
+codes-first b i zero r = refl
+codes-first b i (suc d) r = ap (λ (l : List ℕ). getD (b .codes) i 0 ∷ l) (codes-first b (suc i) d (omega arith)) ∙ sym (ap (take (suc d)) (drop-cons (b .codes) i 0 (omega arith)))
 
-  front-high : (n j : ℕ) → e ≤ j → getD (take e l ++ drop e (replicate n d)) j d ≡ d
-  front-high n j k =
-      ap (λ (x : ℕ). getD (take e l ++ drop e (replicate n d)) x d) parts
-      ∙ getD-append-add (take e l) (drop e (replicate n d)) (j - e) d
-      ∙ getD-drop e (replicate n d) (j - e) d
-      ∙ all-default n (e + (j - e)) d
-    where
-      parts : j ≡ length (take e l) + (j - e)
-      parts = omega (arith, length-take-le e l h)
+-- the codes of a book's entries are its first ones
+pub codes-viewed : (b : Book) → length (b .codes) ≡ 64 → codesIn (viewed b) ≡ take (upTo64 (b .n)) (b .codes)
+unfolding viewed
+codes-viewed b h = codes-first b 0 (upTo64 (b .n)) (omega (arith, h, upTo64-small (b .n) .0))
 
-bids-same : (rs vs : List Rate) (xs ws : List Amount) (i d : ℕ)
-    → ((j : ℕ) → j < i + d → getD rs j noRate ≡ getD vs j noRate) → ((j : ℕ) → j < i + d → getD xs j noAmount ≡ getD ws j noAmount)
-    → bidsFrom rs xs i d ≡ bidsFrom vs ws i d
-unfolding bidsFrom
-bids-same rs vs xs ws i zero f g = refl
-bids-same rs vs xs ws i (suc d) f g =
-    λ t. record { rate = (f i (omega arith) t) .0; amount = (g i (omega arith) t) .0 }
-    ∷ bids-same rs vs xs ws (suc i) d (λ j h. f j (omega arith)) (λ j h. g j (omega arith)) t
+-- a rate as its number, in hundred-thousandths of a percent
+abbrev pub hundredThousandths : Rate → ℕ
+hundredThousandths r = r .0
 
-bids-zero : (rs : List Rate) (xs : List Amount) (i d : ℕ)
-    → ((j : ℕ) → i ≤ j → getD rs j noRate ≡ noRate) → ((j : ℕ) → i ≤ j → getD xs j noAmount ≡ noAmount)
-    → bidsFrom rs xs i d ≡ replicate d noBid
-unfolding bidsFrom
-bids-zero rs xs i zero f g = refl
-bids-zero rs xs i (suc d) f g =
-    λ t. record { rate = (f i (le-refl i) t) .0; amount = (g i (le-refl i) t) .0 } ∷ bids-zero rs xs (suc i) d (λ j h. f j (omega arith)) (λ j h. g j (omega arith)) t
+-- the first n places as rates and amounts side by side
+side-by-side : (n : ℕ) (rs : List Rate) (xs : List Amount) → n ≤ length rs → n ≤ length xs → bidsOf (take n (map hundredThousandths rs)) (take n (map cents xs)) ≡ bidsFrom rs xs 0 n
+unfolding bidsOf bidsFrom
+side-by-side zero rs xs h k = refl
+side-by-side (suc n) [] xs h k = absurd (let z : _≡_ {A = ℕ} 0 1 = omega arith in omega arith)
+side-by-side (suc n) (r ∷ rs) [] h k = absurd (let z : _≡_ {A = ℕ} 0 1 = omega arith in omega arith)
+side-by-side (suc n) (r ∷ rs) (x ∷ xs) h k = ap (λ (l : List Bid). record { rate = r .0; amount = x .0 } ∷ l) (side-by-side n rs xs (omega arith) (omega arith) ∙ sym (bids-shifted r rs x xs 0 n))
 
--- the first e places, then zeros
-abbrev pub front : {A : Type 0} → ℕ → List A → A → List A
-front e l d = take e l ++ drop e (replicate 640 d)
+-- the element at an index, as its number
+pub number-at : {A : Type 0} (number : A → ℕ) (l : List A) (i : ℕ) (d : A) (z : ℕ) → i < length l → number (getD l i d) ≡ getD (map number l) i z
+number-at number [] i d z h = absurd (let y : _≡_ {A = ℕ} 0 1 = omega arith in omega arith)
+number-at number (x ∷ l) zero d z h = refl
+number-at number (x ∷ l) (suc i) d z h = number-at number l i d z (omega arith)
 
-front-bids : (rs : List Rate) (xs : List Amount) (e : ℕ) → e ≤ 640 → e ≤ length rs → e ≤ length xs
-    → bidsFrom (front e rs noRate) (front e xs noAmount) 0 640 ≡ bidsFrom rs xs 0 e ++ replicate (640 - e) noBid
-front-bids rs xs e h hr hx =
-    ap (bidsFrom (front e rs noRate) (front e xs noAmount) 0) parts
-    ∙ bids-add (front e rs noRate) (front e xs noAmount) 0 e (640 - e)
-    ∙ ap₂ (λ (l m : List Bid). l ++ m)
-    (bids-same (front e rs noRate) rs (front e xs noAmount) xs 0 e (λ j k. front-low e rs noRate hr (replicate 640 noRate) j (omega arith)) (λ j k. front-low e xs noAmount hx (replicate 640 noAmount) j (omega arith)))
-    (bids-zero (front e rs noRate) (front e xs noAmount) (0 + e) (640 - e) (λ j k. front-high e rs noRate hr 640 j (omega arith)) (λ j k. front-high e xs noAmount hx 640 j (omega arith)))
+-- all places written
+pub all-written : (b : Book) (rates₀ amounts₀ rates amounts : List ℕ) (i : ℕ) → length (b .rates) ≡ 640 → length (b .amounts) ≡ 640 → i ≡ 10 * upTo64 (b .n)
+    → length rates₀ ≡ 10 * upTo64 (b .n) → length amounts₀ ≡ 10 * upTo64 (b .n)
+    → rates ≡ take i (map hundredThousandths (b .rates)) ++ drop i rates₀ → amounts ≡ take i (map cents (b .amounts)) ++ drop i amounts₀ → bidsOf rates amounts ≡ bidsInBook (viewed b)
+all-written b rates₀ amounts₀ rates amounts i hr hx e kr kx er ex =
+    let s = upTo64-small (b .n) .0 in
+    ap₂ bidsOf (er ∙ whole (take i (map hundredThousandths (b .rates))) rates₀ (omega (arith, e, kr))) (ex ∙ whole (take i (map cents (b .amounts))) amounts₀ (omega (arith, e, kx)))
+    ∙ side-by-side i (b .rates) (b .amounts) (omega (arith, e, s, hr)) (omega (arith, e, s, hx))
+    ∙ ap (bidsFrom (b .rates) (b .amounts) 0) e
+    ∙ sym (bids-viewed b)
   where
-    parts : 640 ≡ e + (640 - e)
-    parts = omega arith
-
--- 'places of absent codes zero'
-pub front-viewed : (b : Book) (rs : List Rate) (xs : List Amount) (i : ℕ) → length (b .rates) ≡ 640 → length (b .amounts) ≡ 640 → i ≡ 10 * upTo64 (b .n)
-    → rs ≡ front i (b .rates) noRate → xs ≡ front i (b .amounts) noAmount → bidsFrom rs xs 0 640 ≡ places640 (bidsInBook (viewed b))
-unfolding places640
-front-viewed b rs xs i hr hx e er ex =
-    ap₂ (λ (r : List Rate) (x : List Amount). bidsFrom r x 0 640) er ex
-    ∙ front-bids (b .rates) (b .amounts) i (omega (arith, s)) (omega (arith, s)) (omega (arith, s))
-    ∙ ap₂ (λ (l : List Bid) (n : ℕ). l ++ replicate (640 - n) noBid) whole (sym (length-bids (b .rates) (b .amounts) 0 i) ∙ ap length whole)
-  where
-    s : upTo64 (b .n) ≤ 64
-    s = upTo64-small (b .n) .0
-
-    whole : bidsFrom (b .rates) (b .amounts) 0 i ≡ bidsInBook (viewed b)
-    whole = ap (bidsFrom (b .rates) (b .amounts) 0) e ∙ sym (bids-viewed b)
+    whole : (l d : List ℕ) → length d ≤ i → l ++ drop i d ≡ l
+    whole l d h = ap (λ (x : List ℕ). l ++ x) (drop-of-length-le d {i = i} h) ∙ append-nil l

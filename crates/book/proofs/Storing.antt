@@ -9,8 +9,8 @@ use native.Mathlib.Omega.{arith}
 use native.Mathlib.Nat.{add-zero}
 use native.Mathlib.Numerals.{add-one}
 use lib.Dec.{ltb}
-use lib.ListN.{length, getD, set, take, drop, length-set, drop-of-length-le}
-use lib.Seq.{sets, getD-set-same, getD-set-other, take-suc, drop-cons, length-take-le, take-all}
+use lib.ListN.{length, getD, set, take, length-set}
+use lib.Seq.{sets, getD-set-same, getD-set-other, take-suc, length-take-le, take-all}
 use borrow.Author.Tests.{ltb-true, ltb-false}
 use Rattle.places.specs.declared.Rate.{Rate}
 use Rattle.places.specs.declared.Amount.{Amount}
@@ -52,12 +52,6 @@ module _ {A : Type 0} where
       ∙ ap (sets l i) (sym (take-suc vs j d h))
       ∙ ap (λ (n : ℕ). sets l i (take n vs)) (sym (add-one j))
 
-  -- the values from j on, the one at j stored first
-  sets-next : (l : List A) (i : ℕ) (vs : List A) (j : ℕ) (d : A) → j < length vs → sets l (i + j) (drop j vs) ≡ sets (set l (i + j) (getD vs j d)) (i + (j + 1)) (drop (j + 1) vs)
-  sets-next l i vs j d h =
-      let e : suc (i + j) ≡ i + (j + 1) = omega arith in
-      ap (sets l (i + j)) (drop-cons vs j d h) ∙ ap₂ (λ (n m : ℕ). sets (set l (i + j) (getD vs j d)) n (drop m vs)) e (sym (add-one j))
-
 -- the bids that were stored, and those at other indices
 bids-in : (rs vs : List Rate) (xs ws : List Amount) (i j d : ℕ) → j + d ≤ length vs → j + d ≤ length ws → i + length vs ≤ length rs → i + length ws ≤ length xs
     → bidsFrom (sets rs i vs) (sets xs i ws) (i + j) d ≡ bidsFrom vs ws j d
@@ -96,17 +90,14 @@ stored b k t vs ws = timed b k t (sets (b .rates) (10 * k) vs) (sets (b .amounts
 abbrev pub placed : Book → List Rate → List Amount → Book
 placed b rs xs = record { codes = b .codes; n = b .n; held = b .held; has = b .has; rates = rs; amounts = xs }
 
--- the arrays once the places from the i-th on are stored too
-abbrev pub finished : Book → ℕ → ℕ → List Rate → List Amount → Book
-finished b base i vs ws = placed b (sets (b .rates) (base + i) (drop i vs)) (sets (b .amounts) (base + i) (drop i ws))
-
--- one of them stored, and none left to store
-pub finished-next : (b : Book) (base i : ℕ) (vs : List Rate) (ws : List Amount) (r : Rate) (x : Amount) → i < length vs → i < length ws
-    → finished b base i vs ws ≡ finished (placed b (set (b .rates) (base + i) (getD vs i r)) (set (b .amounts) (base + i) (getD ws i x))) base (i + 1) vs ws
-finished-next b base i vs ws r x h k = ap₂ (placed b) (sets-next (b .rates) base vs i r h) (sets-next (b .amounts) base ws i x k)
-
-pub finished-all : (b : Book) (base i : ℕ) (vs : List Rate) (ws : List Amount) → length vs ≤ i → length ws ≤ i → finished b base i vs ws ≡ b
-finished-all b base i vs ws h k = ap₂ (λ (l : List Rate) (m : List Amount). placed b (sets (b .rates) (base + i) l) (sets (b .amounts) (base + i) m)) (drop-of-length-le vs h) (drop-of-length-le ws k)
+-- one place more stored
+pub one-placed : (b₀ b : Book) (k i : ℕ) (vs : List Rate) (ws : List Amount) (r : Rate) (x : Amount) → i < length vs → i < length ws
+    → b ≡ placed b₀ (sets (b₀ .rates) (10 * k) (take i vs)) (sets (b₀ .amounts) (10 * k) (take i ws))
+    → placed b (set (b .rates) (10 * k + i) (getD vs i r)) (set (b .amounts) (10 * k + i) (getD ws i x)) ≡ placed b₀ (sets (b₀ .rates) (10 * k) (take (i + 1) vs)) (sets (b₀ .amounts) (10 * k) (take (i + 1) ws))
+one-placed b₀ b k i vs ws r x hv hw e =
+    let rs = sets-more (b₀ .rates) (10 * k) vs (b .rates) i r hv (ap (λ (y : Book). y .rates) e) in
+    let xs = sets-more (b₀ .amounts) (10 * k) ws (b .amounts) i x hw (ap (λ (y : Book). y .amounts) e) in
+    λ j. record { codes = e j .codes; n = e j .n; held = e j .held; has = e j .has; rates = rs j; amounts = xs j }
 
 -- the lengths that the arrays have by their types
 pub record Sized (b : Book) : Type 0 where
@@ -168,7 +159,3 @@ module _ (b : Book) (sized : Sized b) (k t : ℕ) (vs : List Rate) (ws : List Am
   viewed-timed i rs xs e er ex =
       ap₂ (λ r x. viewed (timed b k t r x)) (er ∙ ap (sets (b .rates) (10 * k)) (take-all i vs (omega arith))) (ex ∙ ap (sets (b .amounts) (10 * k)) (take-all i ws (omega arith)))
       ∙ viewed-stored
-
-  -- the same where the places are still to be stored
-  pub viewed-to-store : viewed (finished (timed b k t (b .rates) (b .amounts)) (10 * k) 0 vs ws) ≡ replaced (viewed b) k t (bidsFrom vs ws 0 10)
-  viewed-to-store = ap (λ (n : ℕ). viewed (timed b k t (sets (b .rates) n vs) (sets (b .amounts) n ws))) (add-zero (10 * k)) ∙ viewed-stored

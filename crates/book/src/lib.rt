@@ -4,10 +4,8 @@ pub mod internal;
 use places::Amount;
 use places::Rate;
 ghost use mathlib.Core.Path.{_≡_};
-ghost use lib.ListN.{take};
+ghost use lib.ListN.{length, take, replicate};
 ghost use Rattle.rules.specs.Receiving.{newBook};
-ghost use Rattle.rules.specs.Calls.{bidsInBook, places640};
-ghost use Rattle.bids.specs.Columns.{bidsFrom};
 ghost use Rattle.book.specs.Viewed.{upTo64, viewed, findFrom};
 
 // For each code the time last accepted, whether there is one, and ten places from ten times its index on.
@@ -24,12 +22,6 @@ pub struct Book {
 pub enum Found {
     At(usize),
     Absent,
-}
-
-// Rates and amounts of 640 places.
-pub struct Columns {
-    pub rates: [Rate; 640],
-    pub amounts: [Amount; 640],
 }
 
 // A number, or 64 where it is larger.
@@ -84,18 +76,16 @@ pub fn find(b: Book, code: u64) -> Found
     Found::Absent
 }
 
-// All places in book order, those past the last code zero.
-pub fn in_order(b: Book) -> Columns
-    ensures { λ r. ⌜ bidsFrom (r .rates) (r .amounts) 0 640 ≡ places640 (bidsInBook (viewed b)) ⌝ }
+// The rates of 640 places that are not filled.
+pub fn no_rates() -> [u32; 640]
+    ensures { λ r. ⌜ length r ≡ 640 ⌝ }
 {
-    let end = 10 * up_to_64(b.n);
-    let mut rates = [Rate(0); 640];
-    let mut amounts = [Amount(0); 640];
-    let mut i = 0;
-    while i < end {
-        rates[i] = b.rates[i];
-        amounts[i] = b.amounts[i];
-        i += 1;
-    }
-    Columns { rates, amounts }
+    [0; 640]
+}
+
+// Their amounts, or awards.
+pub fn no_amounts() -> [u64; 640]
+    ensures { λ r. ⌜ r ≡ replicate 640 0 ⌝ }
+{
+    [0; 640]
 }

@@ -1,8 +1,4 @@
-pub mod Stepping
-pub mod Admitted
-pub mod Answered
-pub mod Whole
+pub mod Kept
 pub mod Running
-pub mod Receiving
 pub mod Logging
-pub mod Noting
+pub mod Whole

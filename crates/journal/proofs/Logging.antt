@@ -1,25 +1,44 @@
--- The loop over fields: what holds of it, and that each turn keeps it, one that takes a run of receptions and one that takes a field. Assumes nothing.
+-- The loop over fields: what holds of it, and that each turn keeps it, by what the field changes. Assumes nothing.
 use mathlib.Core.Path.{_≡_, refl, sym, ap, subst, _∙_}
 use mathlib.Core.Bool.{Bool, true, false, cond}
 use mathlib.Core.List.{List, _++_}
 use mathlib.Core.Option.{none, some}
-use Prim.Native.Nat.{ℕ, _+_, _-_, _≤_}
+use Prim.Native.Nat.{ℕ, _+_, _*_, _-_, _≤_, _<_}
 use native.Mathlib.Omega.{arith}
-use lib.ListN.{length, take, drop, getD, length-append, length-drop}
-use lib.Seq.{length-take-le}
+use lib.ListN.{length, take, drop, getD, length-append, length-drop, length-set}
+use lib.Seq.{sets, length-sets, length-take-le}
 use Rattle.output.specs.Output.{Wrote}
 use Rattle.output.proofs.Output.{from-start}
 use Rattle.layout.specs.Fields.{lengthAt}
 use Rattle.layout.proofs.Fields.{first-byte}
-use Rattle.tender.specs.declared.Tender.{Tender}
+use Rattle.rules.specs.Opening.{rising}
+use Rattle.rules.specs.Receiving.{newBook}
+use Rattle.rules.specs.Calls as rules
+use Rattle.terms.specs.declared.Terms.{Terms}
+use Rattle.terms.specs.Viewed as terms
+use Rattle.bids.specs.Columns.{bidsFrom}
+use Rattle.book.specs.declared.Book.{Book}
+use Rattle.book.specs.Viewed as book
+use Rattle.book.proofs.Empty.{new-whole}
+use Rattle.book.proofs.Joining.{new-codes, replaced-codes}
+use Rattle.book.proofs.Storing.{Sized, timed, viewed-timed}
+use Rattle.tender.specs.declared.State.{State}
+use Rattle.tender.specs.declared.State.the-variants as state
+use Rattle.tender.specs.declared.internal.Accepted.{Accepted}
 use Rattle.tender.specs.Viewed as tender
-use Rattle.log.specs.Steps.{Log, tagOf, contentOf, afterField, holdsField}
+use Rattle.tender.specs.Viewed.{tenderOf}
+use Rattle.log.specs.Steps.{Log, ending, step, tagOf, contentOf, holdsField}
+use Rattle.steps.specs.declared.Taken.{Taken}
+use Rattle.steps.specs.Parts as parts
+use Rattle.steps.specs.Parts.{Parts, codesOf, tenderIn, codesFrom, withTender, openedOn, holding, Takes}
 use Rattle.journal.specs.declared.Journal.{Journal}
-use Rattle.journal.specs.declared.Stepped.{Stepped}
-use Rattle.journal.specs.Viewed.{viewed, Given, Steps, steppedIn, withTender}
-use Rattle.journal.specs.Runs.{Runs, holding}
-use Rattle.journal.proofs.Whole.{steps-in-room}
-use Rattle.journal.proofs.Running.{none-taken, leads-to, keeps, one-taken, and-then, content-at, after-at, rest-lent, rest-length, rest-back}
+use Rattle.journal.specs.Viewed.{viewed, Given}
+use Rattle.journal.specs.Runs.{Runs}
+use Rattle.journal.proofs.Running.{none-taken, leads-to, starts-from, keeps, one-taken, and-then, content-at, after-at, rest-lent, rest-length, rest-back}
+
+-- a journal of its parts
+abbrev pub journalOf : Bool → Parts → Journal
+journalOf ended p = record { ended = ended; opened = p .opened; codes = p .codes; n = p .n; tender = tenderOf (p .state) (p .terms) (p .book) }
 
 -- a text written from the start of a space that keeps its length fits into it
 pub wrote-within : (d text after : List ℕ) (n : ℕ) → Wrote d 0 text after n → length after ≡ length d → n ≤ length d
@@ -29,32 +48,98 @@ wrote-within d text after n w e =
     let k = length-drop (length text) d in
     omega (arith, p, l, k, e)
 
--- the journal of a run of receptions is the log that holds its tender
-opened-is : (j : Journal) → j .opened ≡ true → viewed j .tender ≡ some (tender.viewed (j .tender))
-opened-is j h = ap (λ (b : Bool). cond b (some (tender.viewed (j .tender))) none) h
+-- the field at an index, as the code reads it, leads to the log after its change
+pub field-taken : (s : List ℕ) (at n : ℕ) → n ≡ lengthAt (drop at s) → (p : Parts) (space left : List ℕ) (r : Taken) → holdsField (drop at s) ≡ true
+    → Takes (step (parts.viewed p) (getD s at 0) (take (at + 3 + n - (at + 3)) (drop (at + 3) s))) p (take (at + 3 + n - (at + 3)) (drop (at + 3) s)) space r left
+    → Runs (parts.viewed p) (drop at s) space (parts.after p (take (at + 3 + n - (at + 3)) (drop (at + 3) s)) (r .terms) (r .accepted) (r .change)) (drop (at + 3 + n) s) left (r .length)
+field-taken s at n e p space left r h d =
+    subst (λ (y : List ℕ). Runs (parts.viewed p) (drop at s) space (parts.after p (take (at + 3 + n - (at + 3)) (drop (at + 3) s)) (r .terms) (r .accepted) (r .change)) y left (r .length)) (sym (after-at s at n e))
+    (leads-to (ap (λ (x : ℕ × List ℕ). parts.kept (step (parts.viewed p) (x .0) (x .1) .0)) (sym read) ∙ d .state)
+    (keeps (one-taken (none-taken (parts.viewed p) (drop at s) space) h refl (subst (λ (x : ℕ × List ℕ). Wrote space 0 (step (parts.viewed p) (x .0) (x .1) .1) left (r .length)) read (d .lines)))))
+  where
+    read : _≡_ {A = ℕ × List ℕ} (getD s at 0, take (at + 3 + n - (at + 3)) (drop (at + 3) s)) (tagOf (drop at s), contentOf (drop at s))
+    read = λ i. (sym (first-byte s at) i, content-at s at n e i)
 
-holding-is : (j : Journal) (t : Tender) → j .ended ≡ false → holding (viewed j) t ≡ viewed (withTender j t)
-holding-is j t e = λ i. record { ended = sym e i; codes = viewed j .codes; tender = some (tender.viewed t) }
+-- the same from a journal of these parts
+pub from-parts : (ended : Bool) (p : Parts) → ended ≡ false → {x space left y : List ℕ} {l : Log} {n : ℕ} → Runs (parts.viewed p) x space l y left n → Runs (viewed (journalOf ended p)) x space l y left n
+from-parts ended p e r = starts-from (ap (λ (b : Bool). viewed (journalOf b p)) (sym e)) r
 
--- a field that a step of the code takes, as a run
-step-taken : (j : Journal) (x space after : List ℕ) (r : Stepped) → holdsField x ≡ true → j .ended ≡ false → 23040 ≤ length space
-    → Steps (steppedIn space (viewed j) (tagOf x) (contentOf x)) space r after → Runs (viewed j) x space (viewed (r .journal)) (afterField x) after (r .length)
-step-taken j x space after r h e roomy s =
-    let d = steps-in-room (viewed j) (tagOf x) (contentOf x) space after r roomy s in
-    leads-to (sym (d .state)) (keeps (one-taken (none-taken (viewed j) x space) h e (d .lines)))
+-- a journal that a log leads to, with the lengths that its arrays have by their types
+pub record Arrives (l : Log) (j : Journal) : Type 0 where
+  pub told : l ≡ viewed j
+  pub given : Given j
+  pub codes-length : length (j .codes) ≡ 65
+  pub sized : Sized (j .tender .book)
 
--- the same of the field at an index, as the code reads it
-pub field-taken : (s : List ℕ) (at n : ℕ) → n ≡ lengthAt (drop at s) → (j : Journal) (space after : List ℕ) (r : Stepped) → holdsField (drop at s) ≡ true → j .ended ≡ false → 23040 ≤ length space
-    → Steps (steppedIn space (viewed j) (getD s at 0) (take (at + 3 + n - (at + 3)) (drop (at + 3) s))) space r after → Runs (viewed j) (drop at s) space (viewed (r .journal)) (drop (at + 3 + n) s) after (r .length)
-field-taken s at n e j space after r h u roomy d =
-    subst (λ (y : List ℕ). Runs (viewed j) (drop at s) space (viewed (r .journal)) y after (r .length)) (sym (after-at s at n e))
-    (step-taken j (drop at s) space after r h u roomy
-    (subst (λ (p : ℕ × List ℕ). Steps (steppedIn space (viewed j) (p .0) (p .1)) space r after) (λ i. (sym (first-byte s at) i, content-at s at n e i)) d))
+-- the same journal under another name
+pub arrives-at : {l : Log} {j k : Journal} → k ≡ j → Arrives l j → Arrives l k
+arrives-at {l} e a = subst (Arrives l) (sym e) a
 
--- receptions that were taken, as a run
-pub receptions-taken : (j k : Journal) (t : Tender) (x space y after : List ℕ) (n : ℕ) → j .ended ≡ false → j .opened ≡ true → k ≡ withTender j t
-    → ((l : Log) → l .ended ≡ false → l .tender ≡ some (tender.viewed (j .tender)) → Runs l x space (holding l t) y after n) → Runs (viewed j) x space (viewed k) y after n
-receptions-taken j k t x space y after n e o p r = leads-to (holding-is j t e ∙ ap viewed (sym p)) (r (viewed j) e (opened-is j o))
+-- the parts after each change
+module _ (p : Parts) (g : parts.Given p) (full : length (p .codes) ≡ 65) (sized : Sized (p .book)) where
+  pub unchanged : Arrives (parts.viewed p) (journalOf false p)
+  unchanged = record { told = refl; given = record { few = g .few; tender = g .tender }; codes-length = full; sized = sized }
+
+  pub ended : Arrives (ending (parts.viewed p) .0) (journalOf true p)
+  ended = record { told = refl; given = record { few = g .few; tender = g .tender }; codes-length = full; sized = sized }
+
+  pub admitted : (s codes : List ℕ) (k : ℕ) → take k codes ≡ codesFrom k s → k ≤ 65 → length codes ≡ 65
+      → Arrives (parts.withCodes p (codesFrom k s)) (journalOf false (parts.parts (p .opened) codes k (p .state) (p .terms) (p .book)))
+  admitted s codes k e h all =
+      record {
+        told = λ i. record { ended = false; codes = sym e i; tender = parts.viewed p .tender };
+        given = record { few = h; tender = g .tender };
+        codes-length = all;
+        sized = sized;
+      }
+
+  -- a tender newly opened
+  pub opened : (t : Terms) (b : Book) → length (codesOf p) ≤ 64 → rising (codesOf p) ≡ true → book.viewed b ≡ newBook (take 64 (codesOf p)) → Sized b
+      → Arrives (withTender p (openedOn t (codesOf p))) (journalOf false (parts.parts true (p .codes) (p .n) state.Open t b))
+  opened t b few rises new z =
+      let entries = new ∙ new-whole (codesOf p) few in
+      let codes = ap book.codesIn entries ∙ new-codes (codesOf p) in
+      record {
+        told = λ i. record { ended = false; codes = codesOf p; tender = some (record { terms = terms.viewed t (sym codes i); state = rules.Open; book = sym entries i }) };
+        given = record { few = g .few; tender = record { rises = ap rising codes ∙ rises } };
+        codes-length = full;
+        sized = z;
+      }
+
+  -- another state
+  pub in-state : (x : State) → p .opened ≡ true → Arrives (withTender p (rules.inState (tender.stateOf x) (tenderIn p))) (journalOf false (parts.parts (p .opened) (p .codes) (p .n) x (p .terms) (p .book)))
+  in-state x o =
+      record {
+        told = λ i. record { ended = false; codes = codesOf p; tender = sym (ap (λ (b : Bool). cond b (some (rules.inState (tender.stateOf x) (tenderIn p))) none) o) i };
+        given = record { few = g .few; tender = record { rises = g .tender .rises } };
+        codes-length = full;
+        sized = sized;
+      }
+
+  -- a message accepted, its ten places stored
+  pub accepted : (a : Accepted) → p .opened ≡ true → a .at < 64 → length (a .rates) ≡ 10 → length (a .amounts) ≡ 10 → (i : ℕ) → i ≡ 10
+      → Arrives (withTender p (holding (tenderIn p) a))
+      (journalOf false (parts.parts (p .opened) (p .codes) (p .n) (p .state) (p .terms) (timed (p .book) (a .at) (a .time) (sets (p .book .rates) (10 * a .at) (take i (a .rates))) (sets (p .book .amounts) (10 * a .at) (take i (a .amounts))))))
+  accepted a o at64 hr hx i e =
+      let rs = sets (p .book .rates) (10 * a .at) (take i (a .rates)) in
+      let xs = sets (p .book .amounts) (10 * a .at) (take i (a .amounts)) in
+      let next = timed (p .book) (a .at) (a .time) rs xs in
+      let there = viewed-timed (p .book) sized (a .at) (a .time) (a .rates) (a .amounts) at64 hr hx i rs xs e refl refl in
+      let codes = ap book.codesIn there ∙ replaced-codes (book.viewed (p .book)) (a .at) (a .time) (bidsFrom (a .rates) (a .amounts) 0 10) in
+      record {
+        told =
+            (λ i. record { ended = false; codes = codesOf p; tender = some (record { terms = terms.viewed (p .terms) (sym codes i); state = tender.stateOf (p .state); book = sym there i }) })
+            ∙ (λ i. record { ended = false; codes = codesOf p; tender = sym (ap (λ (b : Bool). cond b (some (tender.viewed (tenderOf (p .state) (p .terms) next))) none) o) i });
+        given = record { few = g .few; tender = record { rises = ap rising codes ∙ g .tender .rises } };
+        codes-length = full;
+        sized =
+            record {
+              held-length = length-set (p .book .held) (a .at) (a .time) ∙ sized .held-length;
+              has-length = length-set (p .book .has) (a .at) true ∙ sized .has-length;
+              rates-length = length-sets (p .book .rates) (10 * a .at) (take i (a .rates)) ∙ sized .rates-length;
+              amounts-length = length-sets (p .book .amounts) (10 * a .at) (take i (a .amounts)) ∙ sized .amounts-length;
+            };
+      }
 
 -- the fields up to an index are taken and their lines written
 pub record Logging (input before : List ℕ) (first : Journal) (space : List ℕ) (j : Journal) (at n : ℕ) : Type 0 where
@@ -63,9 +148,11 @@ pub record Logging (input before : List ℕ) (first : Journal) (space : List ℕ
   pub within : at ≤ length input
   pub room : n ≤ length before
   pub same : length space ≡ length before
+  pub codes-length : length (j .codes) ≡ 65
+  pub sized : Sized (j .tender .book)
 
-pub none-logged : (input space : List ℕ) (j : Journal) → Given j → Logging input space j space j 0 0
-none-logged input space j g = record { runs = none-taken (viewed j) input space; given = g; within = omega arith; room = omega arith; same = refl }
+pub none-logged : (input space : List ℕ) (j : Journal) → Given j → length (j .codes) ≡ 65 → Sized (j .tender .book) → Logging input space j space j 0 0
+none-logged input space j g c s = record { runs = none-taken (viewed j) input space; given = g; within = omega arith; room = omega arith; same = refl; codes-length = c; sized = s }
 
 -- a run more, over the rest of the space
 module _ {input before : List ℕ} {first : Journal} {space : List ℕ} {j : Journal} {at n : ℕ} (t : Logging input before first space j at n) where
@@ -77,10 +164,11 @@ module _ {input before : List ℕ} {first : Journal} {space : List ℕ} {j : Jou
   room-left = rest-length space n (length before - n) rest
 
   pub one-logged : (k : Journal) (next m : ℕ) (part : List ℕ)
-      → Runs (viewed j) (drop at input) (take (length before - n) (drop n space)) (viewed k) (drop next input) part m
-      → length part ≡ length (take (length before - n) (drop n space)) → next ≤ length input → Given k
+      → {l : Log} → Runs (viewed j) (drop at input) (take (length before - n) (drop n space)) l (drop next input) part m
+      → length part ≡ length (take (length before - n) (drop n space)) → next ≤ length input → Arrives l k
       → Logging input before first (take n space ++ (part ++ drop (length before - n) (drop n space))) k next (n + m)
-  one-logged k next m part r e w g =
+  one-logged k next m part q e w a =
+      let r = leads-to (a .told) q in
       let small = wrote-within (take (length before - n) (drop n space)) (r .text) part m (r .wrote) e in
       let o = t .room in
       let s = t .same in
@@ -90,11 +178,13 @@ module _ {input before : List ℕ} {first : Journal} {space : List ℕ} {j : Jou
         runs =
             subst (λ (x : List ℕ). Runs (viewed first) input before (viewed k) (drop next input) (take n space ++ x) (n + m)) (sym back)
             (and-then (t .runs) (subst (λ (x : List ℕ). Runs (viewed j) (drop at input) x (viewed k) (drop next input) part m) (rest-lent space n (length before - n) rest) r));
-        given = g;
+        given = a .given;
         within = w;
         room = omega (arith, small, l, o);
         same =
             ap (λ (x : List ℕ). length (take n space ++ x)) back
             ∙ length-append (take n space) part
             ∙ omega (arith, length-take-le n space (omega (arith, o, s)), e, l, o);
+        codes-length = a .codes-length;
+        sized = a .sized;
       }

@@ -1,37 +1,20 @@
 -- Laws of runs: nothing taken yet, one field more, and one run after another. Assumes nothing.
 use mathlib.Core.Path.{_≡_, refl, sym, ap, subst, _∙_}
-use mathlib.Core.Bool.{true, false, cond, not, _&&_}
+use mathlib.Core.Bool.{true, false}
 use mathlib.Core.List.{List, [], _++_, append-assoc, append-nil}
-use mathlib.Core.Option.{some}
-use Prim.Native.Nat.{ℕ, zero, suc, _+_, _-_, _≤_}
+use Prim.Native.Nat.{ℕ, _+_, _-_, _≤_}
 use native.Mathlib.Nat.{zero-add}
 use native.Mathlib.Omega.{arith}
-use lib.Dec.{eqb, leb}
-use lib.ListN.{length, take, drop, getD, length-drop, drop-of-length-le}
-use lib.Seq.{drop-drop, take-all, length-take-le}
-use borrow.Author.Tests.{eqb-true, leb-true, le-ltb}
-use Rattle.laws.proofs.Tests.{and-left, and-right}
+use lib.ListN.{length, take, drop, length-drop, drop-of-length-le}
+use lib.Seq.{drop-drop, take-all}
 use Rattle.output.specs.Output.{overlay, Wrote}
 use Rattle.output.proofs.Output.{nothing, then, from-start}
 use Rattle.layout.specs.Fields.{lengthAt}
-use Rattle.layout.proofs.Fields.{first-byte}
-use Rattle.rules.specs.Calls as rules
-use Rattle.log.specs.Steps.{Log, received, reception, step, tagOf, contentOf, afterField, holdsField, walked, logFrom}
+use Rattle.log.specs.Steps.{Log, step, tagOf, contentOf, afterField, holdsField, logFrom}
 use Rattle.log.proofs.Walks.{held-head, held-whole, field-first}
-use Rattle.journal.specs.Viewed.{kept}
-use Rattle.journal.specs.Runs.{Runs, receptionFirst}
-use Rattle.journal.proofs.Whole.{same-step, kept-twice}
-
--- logs of which a journal keeps the same go on alike
-walked-kept : (d : ℕ) (l k : Log) (s : List ℕ) → kept l ≡ kept k → walked d l s ≡ walked d k s
-unfolding walked
-walked-kept zero l k s e = refl
-walked-kept (suc d) l k s e =
-    let a = same-step l k (tagOf s) (contentOf s) e in
-    λ i. cond (holdsField s && not (e i .ended)) (a .1 i ++ walked-kept d (step l (tagOf s) (contentOf s) .0) (step k (tagOf s) (contentOf s) .0) (afterField s) (a .0) i) []
-
-log-kept : (l : Log) (s : List ℕ) → logFrom l s ≡ logFrom (kept l) s
-log-kept l s = walked-kept (length s) l (kept l) s (sym (kept-twice l))
+use Rattle.steps.specs.Parts.{kept}
+use Rattle.journal.specs.Runs.{Runs}
+use Rattle.journal.proofs.Kept.{log-kept}
 
 -- nothing taken yet
 pub none-taken : (l : Log) (s space : List ℕ) → Runs l s space l s space 0
@@ -40,6 +23,9 @@ none-taken l s space = record { text = []; wrote = nothing space 0; log = λ res
 -- a run that leads to another log under another name, or to one that goes on alike
 pub leads-to : {l k j : Log} {s space x after : List ℕ} {n : ℕ} → k ≡ j → Runs l s space k x after n → Runs l s space j x after n
 leads-to {l} {k} {j} {s} {space} {x} {after} {n} e r = subst (λ (o : Log). Runs l s space o x after n) e r
+
+pub starts-from : {l k j : Log} {s space x after : List ℕ} {n : ℕ} → l ≡ k → Runs l s space j x after n → Runs k s space j x after n
+starts-from {l} {k} {j} {s} {space} {x} {after} {n} e r = subst (λ (o : Log). Runs o s space j x after n) e r
 
 pub keeps : {l k : Log} {s space x after : List ℕ} {n : ℕ} → Runs l s space k x after n → Runs l s space (kept k) x after n
 keeps {k = k} {x = x} r = record { text = r .text; wrote = r .wrote; log = λ rest. r .log rest ∙ ap (λ (t : List ℕ). r .text ++ t) (log-kept k (x ++ rest)) }
@@ -112,32 +98,3 @@ module _ (s : List ℕ) (at n : ℕ) (e : n ≡ lengthAt (drop at s)) where
       let v = held-head (drop at s) h in
       let d = length-drop at s in
       omega arith
-
-  content-length : holdsField (drop at s) ≡ true → length (contentOf (drop at s)) ≡ n
-  content-length h =
-      let w = held-whole (drop at s) h in
-      length-take-le (lengthAt (drop at s)) (drop 3 (drop at s)) (omega (arith, length-drop 3 (drop at s))) ∙ sym e
-
-  -- whether it is a reception
-  pub reception-at : holdsField (drop at s) ≡ true → (eqb (getD s at 0) 0xA2 && leb 14 n) ≡ receptionFirst (drop at s)
-  reception-at h = sym (rw (h, content-length h, first-byte s at))
-
--- what a reception at the start says
-module _ (x : List ℕ) (h : receptionFirst x ≡ true) where
-  tagged : (holdsField x && eqb (tagOf x) 0xA2) ≡ true
-  tagged = and-left (holdsField x && eqb (tagOf x) 0xA2) (leb 14 (length (contentOf x))) h
-
-  pub reception-held : holdsField x ≡ true
-  reception-held = and-left (holdsField x) (eqb (tagOf x) 0xA2) tagged
-
-  pub reception-clock : 14 ≤ length (contentOf x)
-  reception-clock = leb-true 14 (length (contentOf x)) (and-right (holdsField x && eqb (tagOf x) 0xA2) (leb 14 (length (contentOf x))) h)
-
-  reception-tag : tagOf x ≡ 0xA2
-  reception-tag = eqb-true (tagOf x) 0xA2 (and-right (holdsField x) (eqb (tagOf x) 0xA2) tagged)
-
-  -- its step calls the tender
-  pub reception-step : (codes : List ℕ) (t : rules.Tender)
-      → step (record { ended = false; codes = codes; tender = some t }) (tagOf x) (contentOf x) ≡ (record { ended = false; codes = codes; tender = some (received (contentOf x) t .0) }, received (contentOf x) t .1)
-  unfolding step reception
-  reception-step codes t = rw (reception-tag, le-ltb (length (contentOf x)) 14 reception-clock) refl

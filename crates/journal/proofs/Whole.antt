@@ -1,139 +1,32 @@
--- The lines of the steps of the code are the log: the codes that a journal keeps tell as much as all of them. Assumes nothing.
-use mathlib.Core.Path.{_≡_, refl, sym, ap, ap₂, subst, _∙_}
-use mathlib.Core.Bool.{Bool, true, false, cond}
+-- The lines of runs one after another are the log. Assumes nothing.
+use mathlib.Core.Path.{_≡_, refl, sym, ap, ap₂, _∙_}
+use mathlib.Core.Bool.{false, not, _&&_}
 use mathlib.Core.List.{List, [], _++_}
-use mathlib.Core.Option.{Option, none, some}
-use Prim.Native.Nat.{ℕ, _≤_}
+use Prim.Native.Nat.{ℕ, zero, suc}
 use native.Mathlib.Nat.{zero-add}
-use native.Mathlib.Omega.{arith}
-use lib.Dec.{eqb, ltb}
 use lib.ListN.{length, take, drop}
-use lib.Seq.{take-take, take-at}
-use borrow.Author.Tests.{le-ltb}
+use lib.Seq.{take-at}
 use Rattle.output.specs.Output.{Wrote}
 use Rattle.output.proofs.Output.{from-start}
-use Rattle.rules.specs.Calls.{Tender, openTender}
-use Rattle.log.specs.Steps.{Log, Step, start, ending, onTender, admittedIn, admission, opened, announcement, received, reception, closed, closing, revoked, revocation, allotted, allotting, step}
-use Rattle.log.specs.Theorems.{stepped}
-use Rattle.log.proofs.Codes.{first-65-tell}
-use Rattle.log.proofs.Fields.{field-by-field}
-use Rattle.journal.specs.declared.Journal.{Journal}
-use Rattle.journal.specs.declared.Stepped.{Stepped}
-use Rattle.journal.specs.Viewed.{viewed, kept, Steps, steppedIn}
-use Rattle.journal.specs.Whole.{StepsAll, no-more, and-next, LogOfSteps}
-
--- two steps alike: a journal keeps the same of both, and their lines are the same
-abbrev pub Alike : Step → Step → Type 0
-Alike a b = (kept (a .0) ≡ kept (b .0)) × (a .1 ≡ b .1)
-
--- either step alike, whatever the test
-either : (b : Bool) (x y x₂ y₂ : Step) → Alike x x₂ → Alike y y₂ → Alike (cond b x y) (cond b x₂ y₂)
-either true x y x₂ y₂ p q = p
-either false x y x₂ y₂ p q = q
-
--- keeping twice is keeping once
-module _ (l : Log) where
-  codes-twice : take 65 (take 65 (l .codes)) ≡ take 65 (l .codes)
-  codes-twice = take-take 65 65 (l .codes) (omega arith)
-
-  pub kept-twice : kept (kept l) ≡ kept l
-  kept-twice = λ i. record { ended = l .ended; codes = codes-twice i; tender = l .tender }
-
-  ends : Alike (ending (kept l)) (ending l)
-  ends = ((λ i. record { ended = true; codes = codes-twice i; tender = l .tender }), refl)
-
--- the step of an A0 by the codes that it admits
-abbrev admitting : Log → Option (List ℕ) → Step
-admitting l codesIn = elim codesIn [ none ↦ ending l | some codes ↦ (record { ended = false; codes = codes; tender = l .tender }, []) ]
-
-admits : (l : Log) (codesIn : Option (List ℕ)) → Alike (admitting (kept l) codesIn) (admitting l codesIn)
-admits l none = ends l
-admits l (some codes) = (refl, refl)
-
--- the step of an A1 by what opening gives
-opens : (l : Log) (p : Option ℕ × Tender) → Alike (opened (kept l) p) (opened l p)
-opens l (none, t) = ((λ i. record { ended = false; codes = codes-twice l i; tender = some t }), refl)
-opens l (some n, t) = (kept-twice l, refl)
-
--- a call by the tender that there is
-abbrev calling : Log → (Tender → Tender × List ℕ) → Option Tender → Step
-calling l call there = elim there [ none ↦ (l, []) | some t ↦ (record { ended = false; codes = l .codes; tender = some (call t .0) }, call t .1) ]
-
-calls : (l : Log) (call : Tender → Tender × List ℕ) (there : Option Tender) → Alike (calling (kept l) call there) (calling l call there)
-calls l call none = (kept-twice l, refl)
-calls l call (some t) = ((λ i. record { ended = false; codes = codes-twice l i; tender = some (call t .0) }), refl)
-
--- the steps of the tags, A0 to A5, and of any field
-module _ (l : Log) (s : List ℕ) where
-  alike-A0 : Alike (admission (kept l) s) (admission l s)
-  unfolding admission
-  alike-A0 = admits l (admittedIn s)
-
-  alike-A1 : Alike (announcement (kept l) s) (announcement l s)
-  unfolding announcement
-  alike-A1 = subst (λ (p : Option ℕ × Tender). Alike (opened (kept l) p) (opened l (openTender s (l .codes)))) (sym (first-65-tell s (l .codes))) (opens l (openTender s (l .codes)))
-
-  alike-A2 : Alike (reception (kept l) s) (reception l s)
-  unfolding reception
-  alike-A2 = either (ltb (length s) 14) (ending (kept l)) (onTender (kept l) (received s)) (ending l) (onTender l (received s)) (ends l) (calls l (received s) (l .tender))
-
-  alike-A3 : Alike (closing (kept l) s) (closing l s)
-  unfolding closing
-  alike-A3 = either (eqb (length s) 14) (onTender (kept l) (closed s)) (ending (kept l)) (onTender l (closed s)) (ending l) (calls l (closed s) (l .tender)) (ends l)
-
-  alike-A4 : Alike (revocation (kept l) s) (revocation l s)
-  unfolding revocation
-  alike-A4 = either (eqb (length s) 0) (onTender (kept l) revoked) (ending (kept l)) (onTender l revoked) (ending l) (calls l revoked (l .tender)) (ends l)
-
-  alike-A5 : Alike (allotting (kept l) s) (allotting l s)
-  unfolding allotting
-  alike-A5 = either (eqb (length s) 0) (onTender (kept l) allotted) (ending (kept l)) (onTender l allotted) (ending l) (calls l allotted (l .tender)) (ends l)
-
-kept-step : (l : Log) (tag : ℕ) (s : List ℕ) → Alike (step (kept l) tag s) (step l tag s)
-unfolding step
-kept-step l tag s =
-    either (l .ended) _ _ _ _ (kept-twice l, refl)
-    (either (eqb tag 0xA0) _ _ _ _ (alike-A0 l s)
-    (either (eqb tag 0xA1) _ _ _ _ (alike-A1 l s)
-    (either (eqb tag 0xA2) _ _ _ _ (alike-A2 l s)
-    (either (eqb tag 0xA3) _ _ _ _ (alike-A3 l s)
-    (either (eqb tag 0xA4) _ _ _ _ (alike-A4 l s)
-    (either (eqb tag 0xA5) _ _ _ _ (alike-A5 l s)
-    (ends l)))))))
-
--- logs of which a journal keeps the same make steps alike
-pub same-step : (l k : Log) (tag : ℕ) (s : List ℕ) → kept l ≡ kept k → Alike (step l tag s) (step k tag s)
-same-step l k tag s e =
-    let p = kept-step l tag s in
-    let q = kept-step k tag s in (
-      sym (p .0) ∙ ap (λ (x : Log). kept (step x tag s .0)) e ∙ q .0,
-      sym (p .1) ∙ ap (λ (x : Log). step x tag s .1) e ∙ q .1,
-    )
+use Rattle.log.specs.Steps.{Log, start, holdsField, walked, logFrom, logOf}
+use Rattle.journal.specs.Runs.{RunsAll, no-more, and-next, LogOfRuns}
 
 -- a text written from the start is the first bytes of the space after
 written-first : (space text after : List ℕ) (n : ℕ) → Wrote space 0 text after n → take n after ≡ text
 written-first space text after n w =
     ap (take n) (w .bytes ∙ from-start space text) ∙ take-at text (drop (length text) space) n (sym (w .past ∙ zero-add (length text)))
 
--- a space with room takes the step
-pub steps-in-room : (l : Log) (tag : ℕ) (s space after : List ℕ) (r : Stepped) → 23040 ≤ length space → Steps (steppedIn space l tag s) space r after → Steps (step l tag s) space r after
-steps-in-room l tag s space after r h d = subst (λ (b : Bool). Steps (cond b (l, []) (step l tag s)) space r after) (le-ltb (length space) 23040 h) d
+-- without a whole field, or after its end, the log has no more lines
+no-lines : (d : ℕ) (l : Log) (s : List ℕ) → (holdsField s && not (l .ended)) ≡ false → walked d l s ≡ []
+unfolding walked
+no-lines zero l s h = refl
+no-lines (suc d) l s h = rw h refl
 
--- what a step of the code writes and leaves, from any log of which the journal keeps the same
-module _ (j : Journal) (l : Log) (tag : ℕ) (s space after : List ℕ) (r : Stepped) (h : 23040 ≤ length space) (d : Steps (steppedIn space (viewed j) tag s) space r after) (e : kept (viewed j) ≡ kept l) where
-  lines-are : take (r .length) after ≡ step l tag s .1
-  lines-are = written-first space (step (viewed j) tag s .1) after (r .length) (steps-in-room (viewed j) tag s space after r h d .lines) ∙ same-step (viewed j) l tag s e .1
+all-lines : (l : Log) (s text : List ℕ) → RunsAll l s text → text ≡ logFrom l s
+all-lines l s text (no-more h) = sym (no-lines (length s) l s h)
+all-lines l s text (and-next {k = k} {left = left} {text = later} {space = space} {after = after} {n = n} rest r more) =
+    ap₂ (λ (x y : List ℕ). x ++ y) (written-first space (r .text) after n (r .wrote)) (all-lines k (left ++ rest) later more) ∙ sym (r .log rest)
 
-  still-kept : kept (viewed (r .journal)) ≡ kept (step l tag s .0)
-  still-kept = ap kept (steps-in-room (viewed j) tag s space after r h d .state) ∙ kept-twice (step (viewed j) tag s .0) ∙ same-step (viewed j) l tag s e .0
-
--- the lines of all steps are those of the log's own
-all-lines : {j : Journal} {fs : List (ℕ × List ℕ)} {text : List ℕ} (l : Log) → kept (viewed j) ≡ kept l → StepsAll j fs text → text ≡ stepped l fs
-unfolding stepped
-all-lines l e no-more = refl
-all-lines l e (and-next {j = j} {f = f} r space after h d more) =
-    ap₂ (λ (x y : List ℕ). x ++ y) (lines-are j l (f .0) (f .1) space after r h d e)
-    (all-lines (step l (f .0) (f .1) .0) (still-kept j l (f .0) (f .1) space after r h d e) more)
-
-pub log-of-steps : LogOfSteps
-log-of-steps s j text e all = all-lines start (ap kept e) all ∙ field-by-field s
+pub log-of-runs : LogOfRuns
+unfolding logOf
+log-of-runs s text r = all-lines start s text r

@@ -1,3 +1,2 @@
 pub mod Viewed
-pub mod Whole
 pub mod Runs

@@ -1,15 +1,14 @@
 -- What a run of the code over the bytes of a session promises: the lines that it wrote and the log of what it left are the log. Assumes nothing.
 use mathlib.Core.Path.{_≡_}
-use mathlib.Core.Bool.{Bool, _&&_, false}
-use mathlib.Core.List.{List, _++_}
-use mathlib.Core.Option.{some}
-use Prim.Native.Nat.{ℕ}
-use lib.Dec.{eqb, leb}
-use lib.ListN.{length}
+use mathlib.Core.Bool.{_&&_, not, false}
+use mathlib.Core.List.{List, [], _++_}
+use Prim.Native.Nat.{ℕ, _-_, _≤_}
+use lib.Dec.{leb}
+use lib.ListN.{length, take, drop}
 use Rattle.output.specs.Output.{Wrote}
-use Rattle.tender.specs.declared.Tender.{Tender}
-use Rattle.tender.specs.Viewed as tender
-use Rattle.log.specs.Steps.{Log, tagOf, contentOf, holdsField, logFrom}
+use Rattle.log.specs.Steps.{Log, start, holdsField, logFrom, logOf}
+use Rattle.journal.specs.declared.Logged.{Logged}
+use Rattle.journal.specs.Viewed.{viewed, Given}
 
 -- text is written at the start of the space, and the log of the bytes s from a state on, whatever follows them, is the text and then the log of what is left of them from the next state on
 pub record Runs (from : Log) (s space : List ℕ) (to : Log) (left after : List ℕ) (n : ℕ) : Type 0 where
@@ -17,10 +16,23 @@ pub record Runs (from : Log) (s space : List ℕ) (to : Log) (left after : List 
   pub wrote : Wrote space 0 text after n
   pub log : (rest : List ℕ) → logFrom from (s ++ rest) ≡ text ++ logFrom to (left ++ rest)
 
--- the log with its tender after calls
-abbrev pub holding : Log → Tender → Log
-holding l t = record { ended = false; codes = l .codes; tender = some (tender.viewed t) }
+-- a run over an input: it leaves no whole field while the log has not ended and the space has room for 640 lines of 36 bytes, and gives a journal that may be handed to the next run
+pub record Logs (from : Log) (input space : List ℕ) (r : Logged) (after : List ℕ) : Type 0 where
+  pub runs : Runs from input space (viewed (r .journal)) (drop (r .used) input) after (r .length)
+  pub within : r .used ≤ length input
+  pub room : r .length ≤ length space
+  pub all : (holdsField (drop (r .used) input) && not (r .journal .ended) && leb 23040 (length space - r .length)) ≡ false
+  pub given : Given (r .journal)
 
--- the bytes begin with a whole reception
-abbrev pub receptionFirst : List ℕ → Bool
-receptionFirst s = holdsField s && eqb (tagOf s) 0xA2 && leb 14 (length (contentOf s))
+-- runs one after another over an input that arrives in pieces: each takes what the last one left and then more of the input
+pub data RunsAll : Log → List ℕ → List ℕ → Type 0 where
+  no-more : {l : Log} {s : List ℕ} → (holdsField s && not (l .ended)) ≡ false → RunsAll l s []
+  and-next :
+      {l k : Log} {s left text space after : List ℕ} {n : ℕ} (rest : List ℕ)
+      → Runs l s space k left after n
+      → RunsAll k (left ++ rest) text
+      → RunsAll l (s ++ rest) (take n after ++ text)
+
+-- the lines of all runs are document 01's log
+abbrev pub LogOfRuns : Type 0
+LogOfRuns = (s text : List ℕ) → RunsAll start s text → text ≡ logOf s

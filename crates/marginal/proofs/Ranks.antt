@@ -7,11 +7,9 @@ use native.Mathlib.Omega.{arith}
 use borrow.Author.Tests.{ltb-true, ltb-false, lt-ltb, le-ltb, eqb-true}
 use Rattle.envelope.specs.declared.announcement.Side.{Side}
 use Rattle.envelope.specs.declared.announcement.Side.the-variants.{La, Lp}
-use Rattle.places.specs.declared.Rate.{Rate}
-use Rattle.places.specs.declared.Amount.{Amount}
 use Rattle.sort.specs.Sorting.{Same}
 use Rattle.sort.proofs.Sorting.{each-still}
-use Rattle.rules.specs.Allotment.{Offer, betterRate}
+use Rattle.rules.specs.Allotment.{Bid, Offer, betterRate}
 use Rattle.marginal.specs.Ranks.{keyBid, ranks, isKey, Ranked}
 
 pub lower-rank : (d : Side) (r s k l : ℕ) → ranks d r k ≡ true → ranks d s l ≡ true → k ≤ l → betterRate d s r ≡ false
@@ -26,11 +24,9 @@ better-than La c r x h k = lt-ltb c x (omega (arith, ltb-true, ltb-false))
 better-than Lp c r x h k = lt-ltb x c (omega (arith, ltb-true, ltb-false))
 
 -- the same keys in another order
-pub ranked-sorted : (o : Offer) (rates : List Rate) (amounts : List Amount) (d n : ℕ) (before after : List ℕ)
-    → Ranked o rates amounts d before n → Same before after n → Ranked o rates amounts d after n
-ranked-sorted o rates amounts d n before after r same =
+pub ranked-sorted : (o : Offer) (bs : List Bid) (before after : List ℕ) → Ranked o bs before → Same before after → Ranked o bs after
+ranked-sorted o bs before after r same =
     record {
-      few = r .few;
-      are-keys = each-still before after n same (λ (k : ℕ). isKey o rates amounts k ≡ true) (r .are-keys);
-      weigh = λ w. same (λ k. w (keyBid rates amounts k)) ∙ r .weigh w;
+      are-keys = each-still before after same (λ (k : ℕ). isKey o bs k ≡ true) (r .are-keys);
+      weigh = λ w. same .weigh (λ k. w (keyBid bs k)) ∙ r .weigh w;
     }

@@ -1,77 +1,90 @@
--- The key of the next place is stored: the keys are those of the bids in among one place more. Assumes nothing.
+-- The key of the next bid is stored: the keys are those of the bids in among one bid more. Assumes nothing.
 use mathlib.Core.Path.{_≡_, refl, sym, _∙_, ap, subst}
 use mathlib.Core.Bool.{Bool, true, false, cond}
-use mathlib.Core.List.{List}
+use mathlib.Core.List.{List, [], _∷_, _++_}
 use Prim.Native.Nat.{ℕ, _+_, _/_, _%_, _≤_, _<_}
+use native.Mathlib.Nat.{add-zero}
 use native.Mathlib.Omega.{arith}
 use native.Mathlib.Numerals.{add-one}
 use lib.Dec.{ltb}
-use lib.ListN.{length, getD, set}
-use lib.Seq.{getD-set-same, getD-set-other}
+use lib.ListN.{length, getD, set, take, length-append, List·getD-append}
+use lib.Seq.{take-all, take-suc, take-suc-set, take-set-le, getD-append-seam}
 use borrow.Author.Tests.{ltb-true, ltb-false, lt-ltb}
-use Rattle.places.specs.declared.Rate.{Rate}
-use Rattle.places.specs.declared.Amount.{Amount}
-use Rattle.sort.specs.Sorting.{sumOver}
-use Rattle.sort.proofs.Sorting.{sum-agree}
-use Rattle.rules.specs.Allotment.{Bid, Offer, isIn, keep}
-use Rattle.bids.specs.Columns.{bidAt, bidsFrom}
-use Rattle.bids.proofs.Columns.{bids-more}
+use Rattle.sort.specs.Sorting.{weightOf}
+use Rattle.sort.proofs.Sorting.{weight-last}
+use Rattle.rules.specs.Allotment.{Bid, noBid, Offer, isIn, keep}
 use Rattle.marginal.specs.Ranks.{keyBid, ranks, isKey, weight, Ranked}
 use Rattle.marginal.proofs.Sums.{weight-more}
 
-pub no-keys : (o : Offer) (rates : List Rate) (amounts : List Amount) (keys : List ℕ) → Ranked o rates amounts 0 keys 0
-unfolding sumOver weight keep bidsFrom
-no-keys o rates amounts keys = record { few = omega arith; are-keys = λ j h. absurd (omega arith); weigh = λ w. refl }
+-- the keys are those of the bids in among some of the bids
+pub record Among (o : Offer) (bs among : List Bid) (keys : List ℕ) : Type 0 where
+  pub are-keys : (j : ℕ) → j < length keys → isKey o bs (getD keys j 0) ≡ true
+  pub weigh : (w : Bid → ℕ) → weightOf (λ k. w (keyBid bs k)) keys ≡ weight w (keep (isIn o) among)
 
-module _ (o : Offer) (rates : List Rate) (amounts : List Amount) (i n k : ℕ) (keys : List ℕ)
-    (r : Ranked o rates amounts i keys n) (h : i < 640) (long : n < length keys)
-    (index : k % 1024 ≡ i) (rank : ranks (o .side) (bidAt rates amounts i .rate) (k / 1024) ≡ true) where
-  abbrev b : Bid
-  b = bidAt rates amounts i
+pub no-keys : (o : Offer) (bs : List Bid) → Among o bs [] []
+unfolding weightOf weight keep
+no-keys o bs = record { are-keys = λ j h. absurd (omega arith); weigh = λ w. refl }
 
-  bid-of : keyBid rates amounts k ≡ b
-  bid-of = ap (bidAt rates amounts) index
+module _ (o : Offer) (bs among : List Bid) (keys : List ℕ) (r : Among o bs among keys) (b : Bid) where
+  -- one bid more that is out
+  one-out : isIn o b ≡ false → Among o bs (among ++ (b ∷ [])) keys
+  one-out e =
+      record {
+        are-keys = r .are-keys;
+        weigh = λ w. r .weigh w ∙ omega (arith, weight-more w (isIn o) among b, ap {B = ℕ} (λ (t : Bool). cond t (w b) 0) e);
+      }
 
-  earlier : (j : ℕ) → j < n → getD (set keys n k) j 0 ≡ getD keys j 0
-  earlier j l = getD-set-other keys n j k 0 (λ z. omega arith)
-
-  weighs : (w : Bid → ℕ) → sumOver (λ x. w (keyBid rates amounts x)) (set keys n k) (n + cond (isIn o b) 1 0)
-      ≡ weight w (keep (isIn o) (bidsFrom rates amounts 0 (i + 1)))
-  unfolding sumOver
-  weighs w = go (isIn o b) refl
+  -- one bid more that is in, with its key
+  one-in : (k : ℕ) → keyBid bs k ≡ b → isKey o bs k ≡ true → isIn o b ≡ true → Among o bs (among ++ (b ∷ [])) (keys ++ (k ∷ []))
+  one-in k i is-key e =
+      record {
+        are-keys = λ j l. go j l (ltb j (length keys)) refl;
+        weigh = λ w. omega (
+          arith,
+          weight-last (λ x. w (keyBid bs x)) keys k,
+          ap w i,
+          r .weigh w,
+          weight-more w (isIn o) among b,
+          ap {B = ℕ} (λ (t : Bool). cond t (w b) 0) e,
+        );
+      }
     where
-      first : sumOver (λ x. w (keyBid rates amounts x)) (set keys n k) n ≡ weight w (keep (isIn o) (bidsFrom rates amounts 0 i))
-      first = sum-agree (λ x. w (keyBid rates amounts x)) (set keys n k) keys n earlier ∙ r .weigh w
+      go : (j : ℕ) → j < length (keys ++ (k ∷ [])) → (t : Bool) → ltb j (length keys) ≡ t → isKey o bs (getD (keys ++ (k ∷ [])) j 0) ≡ true
+      go j l true f = ap (isKey o bs) (List·getD-append keys (k ∷ []) 0 j (ltb-true j (length keys) f)) ∙ r .are-keys j (ltb-true j (length keys) f)
+      go j l false f =
+          let q : j ≡ length keys = omega (arith, ltb-false j (length keys) f, length-append keys (k ∷ [])) in
+          ap (λ (x : ℕ). isKey o bs (getD (keys ++ (k ∷ [])) x 0)) q ∙ ap (isKey o bs) (getD-append-seam keys k [] 0) ∙ is-key
 
-      more : weight w (keep (isIn o) (bidsFrom rates amounts 0 (i + 1)))
-          ≡ weight w (keep (isIn o) (bidsFrom rates amounts 0 i)) + cond (isIn o b) (w b) 0
-      more = ap (λ (l : List Bid). weight w (keep (isIn o) l)) (bids-more rates amounts i) ∙ weight-more w (isIn o) (bidsFrom rates amounts 0 i) b
+-- the key of the bid at i is stored, and kept where the bid is in
+module _ (o : Offer) (bs : List Bid) (i n k : ℕ) (keys : List ℕ) (r : Among o bs (take i bs) (take n keys)) (h : i < length bs) (long : n < length keys)
+    (index : k % 1024 ≡ i) (rank : ranks (o .side) (getD bs i noBid .rate) (k / 1024) ≡ true) where
+  abbrev b : Bid
+  b = getD bs i noBid
 
-      last : w (keyBid rates amounts (getD (set keys n k) n 0)) ≡ w b
-      last = ap (λ (x : ℕ). w (keyBid rates amounts x)) (getD-set-same keys n k 0 long) ∙ ap w bid-of
+  bid-of : keyBid bs k ≡ b
+  bid-of = ap (λ (x : ℕ). getD bs x noBid) index
 
-      go : (t : Bool) → isIn o b ≡ t → sumOver (λ x. w (keyBid rates amounts x)) (set keys n k) (n + cond t 1 0)
-          ≡ weight w (keep (isIn o) (bidsFrom rates amounts 0 (i + 1)))
-      go true e = ap (sumOver (λ x. w (keyBid rates amounts x)) (set keys n k)) (add-one n) ∙ omega (arith, first, last, rw e at more)
-      go false e = ap (sumOver (λ x. w (keyBid rates amounts x)) (set keys n k)) (let z : n + 0 ≡ n = omega arith in z) ∙ omega (arith, first, rw e at more)
-
-  is-key : isIn o b ≡ true → isKey o rates amounts k ≡ true
+  is-key : isIn o b ≡ true → isKey o bs k ≡ true
   unfolding isKey
-  is-key e = rw (ap (isIn o) bid-of ∙ e, lt-ltb (k % 1024) 640 (omega arith), ap (λ (x : Bid). ranks (o .side) (x .rate) (k / 1024)) bid-of ∙ rank)
+  is-key e = rw (ap (isIn o) bid-of ∙ e, lt-ltb (k % 1024) (length bs) (omega arith), ap (λ (x : Bid). ranks (o .side) (x .rate) (k / 1024)) bid-of ∙ rank)
 
-  are-keys : (t : Bool) → isIn o b ≡ t → (j : ℕ) → j < n + cond t 1 0 → (u : Bool) → ltb j n ≡ u → isKey o rates amounts (getD (set keys n k) j 0) ≡ true
-  are-keys t e j l true f = ap (isKey o rates amounts) (earlier j (ltb-true j n f)) ∙ r .are-keys j (ltb-true j n f)
-  are-keys true e j l false f =
-      let q : j ≡ n = omega (arith, ltb-false) in
-      ap (λ (x : ℕ). isKey o rates amounts (getD (set keys n k) x 0)) q ∙ ap (isKey o rates amounts) (getD-set-same keys n k 0 long) ∙ is-key e
-  are-keys false e j l false f = absurd (omega (arith, ltb-false))
+  one-more : take (i + 1) bs ≡ take i bs ++ (b ∷ [])
+  one-more = ap (λ (m : ℕ). take m bs) (add-one i) ∙ take-suc bs i noBid h
 
-  few : (t : Bool) → n + cond t 1 0 ≤ i + 1
-  few true = omega (arith, r .few)
-  few false = omega (arith, r .few)
-
-  -- the place's key is stored, and kept where its bid is in
-  pub ranked-more : (c : ℕ) → c ≡ cond (isIn o b) 1 0 → Ranked o rates amounts (i + 1) (set keys n k) (n + c)
+  pub ranked-more : (c : ℕ) → c ≡ cond (isIn o b) 1 0 → Among o bs (take (i + 1) bs) (take (n + c) (set keys n k))
   ranked-more c e =
-      subst (λ (m : ℕ). Ranked o rates amounts (i + 1) (set keys n k) (n + m)) (sym e)
-      (record { few = few (isIn o b); are-keys = λ j l. are-keys (isIn o b) refl j l (ltb j n) refl; weigh = weighs })
+      subst (λ (m : ℕ). Among o bs (take (i + 1) bs) (take (n + m) (set keys n k))) (sym e)
+      (subst (λ (l : List Bid). Among o bs l (take (n + cond (isIn o b) 1 0) (set keys n k))) (sym one-more) (go (isIn o b) refl))
+    where
+      go : (t : Bool) → isIn o b ≡ t → Among o bs (take i bs ++ (b ∷ [])) (take (n + cond t 1 0) (set keys n k))
+      go true f =
+          subst (Among o bs (take i bs ++ (b ∷ []))) (sym (ap (λ (m : ℕ). take m (set keys n k)) (add-one n) ∙ take-suc-set keys n k long))
+          (one-in o bs (take i bs) (take n keys) r b k bid-of (is-key f) f)
+      go false f =
+          subst (Among o bs (take i bs ++ (b ∷ []))) (sym (ap (λ (m : ℕ). take m (set keys n k)) (add-zero n) ∙ take-set-le n keys n k (omega arith)))
+          (one-out o bs (take i bs) (take n keys) r b f)
+
+-- the keys of the bids in among the first n, where those are all
+pub ranked-all : (o : Offer) (bs : List Bid) (n : ℕ) (keys : List ℕ) → length bs ≤ n → Among o bs (take n bs) keys → Ranked o bs keys
+ranked-all o bs n keys h r =
+    record { are-keys = r .are-keys; weigh = λ w. r .weigh w ∙ ap (λ (l : List Bid). weight w (keep (isIn o) l)) (take-all n bs h) }

@@ -1,13 +1,11 @@
--- Sums over the first numbers of an array compared, and what the bids weigh that pass a test. Assumes nothing.
+-- Sums over the first numbers of a list compared, and what the bids weigh that pass a test. Assumes nothing.
 use mathlib.Core.Path.{_≡_, refl, ap}
 use mathlib.Core.Bool.{Bool, true, false, _&&_, cond}
 use mathlib.Core.List.{List, [], _∷_, _++_, List·Memᴰ, List·Memᴰ·head, List·Memᴰ·tail, List·Memᴰ·not-nil}
 use Prim.Native.Nat.{ℕ, zero, suc, _+_, _≤_, _<_}
 use native.Mathlib.Omega.{arith}
-use lib.Dec.{ltb}
-use lib.ListN.{getD}
-use borrow.Author.Tests.{ltb-true, ltb-false}
-use Rattle.sort.specs.Sorting.{sumOver}
+use lib.ListN.{length, getD, take}
+use Rattle.sort.specs.Sorting.{weightOf}
 use Rattle.rules.specs.Allotment.{Bid, keep, total}
 use Rattle.marginal.specs.Ranks.{weight}
 
@@ -15,37 +13,27 @@ pub cond-le : (t : Bool) (n : ℕ) → cond t n 0 ≤ n
 cond-le true n = omega arith
 cond-le false n = omega arith
 
--- a sum over the first j numbers is within one over the first n by weights that are not less for those j
-pub sum-within : (v w : ℕ → ℕ) (l : List ℕ) (j n : ℕ) → j ≤ n → ((i : ℕ) → i < j → v (getD l i 0) ≤ w (getD l i 0))
-    → sumOver v l j ≤ sumOver w l n
-unfolding sumOver
-sum-within v w l zero n h k = omega arith
-sum-within v w l (suc j) zero h k = absurd (omega arith)
-sum-within v w l (suc j) (suc n) h k =
-    go (ltb (suc j) (suc n)) refl (sum-within v w l j n (omega arith) (λ i s. k i (omega arith))) (λ z. sum-within v w l (suc j) n z k)
-  where
-    go : (t : Bool) → ltb (suc j) (suc n) ≡ t → sumOver v l j ≤ sumOver w l n → (suc j ≤ n → sumOver v l j + v (getD l j 0) ≤ sumOver w l n)
-        → sumOver v l j + v (getD l j 0) ≤ sumOver w l n + w (getD l n 0)
-    go true e ih more = omega (arith, more (omega (arith, ltb-true)))
-    go false e ih more =
-        let q : n ≡ j = omega (arith, ltb-false) in
-        omega (arith, k j (omega arith), ap (λ (x : ℕ). w (getD l x 0)) q)
+-- the first j numbers are within all by weights that are not less for those j
+pub sum-within : (v w : ℕ → ℕ) (l : List ℕ) (j : ℕ) → ((i : ℕ) → i < j → i < length l → v (getD l i 0) ≤ w (getD l i 0)) → weightOf v (take j l) ≤ weightOf w l
+unfolding weightOf
+sum-within v w l zero h = omega arith
+sum-within v w [] (suc j) h = omega arith
+sum-within v w (n ∷ l) (suc j) h = omega (arith, h 0 (omega arith) (omega arith), sum-within v w l j (λ i s t. h (suc i) (omega arith) (omega arith)))
 
--- a sum over the first n numbers is within one over the first j, where the other numbers weigh nothing
-pub sum-stops : (v w : ℕ → ℕ) (l : List ℕ) (j n : ℕ) → ((i : ℕ) → i < j → w (getD l i 0) ≤ v (getD l i 0))
-    → ((i : ℕ) → j ≤ i → i < n → w (getD l i 0) ≡ 0) → sumOver w l n ≤ sumOver v l j
-unfolding sumOver
-sum-stops v w l j zero h k = omega arith
-sum-stops v w l j (suc n) h k = go (ltb n j) refl (sum-stops v w l j n h (λ i s t. k i s (omega arith)))
-  where
-    go : (t : Bool) → ltb n j ≡ t → sumOver w l n ≤ sumOver v l j → sumOver w l n + w (getD l n 0) ≤ sumOver v l j
-    go true e ih = sum-within w v l (suc n) j (ltb-true n j e) (λ i s. h i (omega (arith, ltb-true)))
-    go false e ih = omega (arith, k n (ltb-false n j e) (omega arith))
+-- all are within the first j, where the other numbers weigh nothing
+pub sum-stops : (v w : ℕ → ℕ) (l : List ℕ) (j : ℕ) → ((i : ℕ) → i < j → w (getD l i 0) ≤ v (getD l i 0))
+    → ((i : ℕ) → j ≤ i → i < length l → w (getD l i 0) ≡ 0) → weightOf w l ≤ weightOf v (take j l)
+unfolding weightOf
+sum-stops v w [] j h k = omega arith
+sum-stops v w (n ∷ l) zero h k =
+    omega (arith, k 0 (omega arith) (omega arith), sum-stops v w l zero (λ i s. absurd (omega arith)) (λ i s t. k (suc i) (omega arith) (omega arith)))
+sum-stops v w (n ∷ l) (suc j) h k =
+    omega (arith, h 0 (omega arith), sum-stops v w l j (λ i s. h (suc i) (omega arith)) (λ i s t. k (suc i) (omega arith) (omega arith)))
 
 -- no number weighs anything: nor do they together
-pub sum-none : (w : ℕ → ℕ) (l : List ℕ) (n : ℕ) → ((i : ℕ) → i < n → w (getD l i 0) ≡ 0) → sumOver w l n ≤ 0
-unfolding sumOver
-sum-none w l n h = sum-stops w w l 0 n (λ i s. omega arith) (λ i s t. h i t)
+pub sum-none : (w : ℕ → ℕ) (l : List ℕ) → ((i : ℕ) → i < length l → w (getD l i 0) ≡ 0) → weightOf w l ≤ 0
+unfolding weightOf
+sum-none w l h = sum-stops w w l 0 (λ i s. absurd (omega arith)) (λ i s t. h i t)
 
 -- the bid weighs its amount
 pub weight-amount : (bs : List Bid) → weight (λ b. b .amount) bs ≡ total bs

@@ -1,5 +1,4 @@
-// The walk over the bids in, best rate first, for a book that condition 16 allows.
-use crate::Keys;
+// The walk over the bids in, best rate first, for bids that condition 16 allows.
 use crate::MarginalRate;
 use bids::Bid;
 use envelope::announcement::Side;
@@ -7,13 +6,14 @@ use offer::Offer;
 use offer::is_in;
 use places::Amount;
 use places::Rate;
-use sort::sorted;
+use sort::sort;
 ghost use mathlib.Core.Path.{_≡_};
 ghost use mathlib.Core.Bool.{cond, true};
 ghost use Prim.Native.Nat.{_/_, _%_, _<_, _≤_};
+ghost use lib.ListN.{length, take};
 ghost use Rattle.sort.specs.Sorting.{Rising};
 ghost use Rattle.rules.specs.Allotment.{isIn, marginalRate, total};
-ghost use Rattle.bids.specs.Columns.{bidsFrom};
+ghost use Rattle.bids.specs.Columns.{bidsOf};
 ghost use Rattle.bids.specs.Columns as columns;
 ghost use Rattle.offer.specs.Viewed.{viewed, mostBids};
 ghost use Rattle.marginal.specs.Ranks.{rateIn, ranks, Ranked};
@@ -39,49 +39,46 @@ fn one_in(o: Offer, b: Bid) -> usize
     0
 }
 
-// The keys of the bids in, in book order; a key of another place is written over by the next.
-pub fn keys_in(o: Offer, rates: [Rate; 640], amounts: [Amount; 640]) -> Keys
-    ensures { λ r. ⌜ Ranked (viewed o) rates amounts 640 (r .keys) (r .n) ⌝ }
+// Writes the keys of the bids in, in book order, and gives how many they are; a key of another place is written over by the next.
+pub fn keys_in(o: Offer, rates: &[u32], amounts: &[u64], keys: &mut [u64]) -> usize
+    requires { ⌜ length (now rates) ≡ length (now amounts) ⌝ }
+    requires { ⌜ length (now amounts) ≤ 640 ⌝ }
+    requires { ⌜ length (now amounts) ≤ length (now keys) ⌝ }
+    ensures { λ r. ⌜ (r ≤ length (now (amounts .entry))) × Ranked (viewed o) (bidsOf (now (rates .entry)) (now (amounts .entry))) (take r (now (keys .exit))) ⌝ }
 {
     let side = o.side;
-    let mut keys = [0; 640];
     let mut n = 0;
     let mut i = 0;
-    while i < 640 {
+    while i < amounts.len() {
         let b = Bid {
-            rate: rates[i],
-            amount: amounts[i],
+            rate: Rate(rates[i]),
+            amount: Amount(amounts[i]),
         };
         keys[n] = key(side, b.rate, i);
         n += one_in(o, b);
         i += 1;
     }
-    Keys { keys, n }
+    n
 }
 
 // The rate of the first key, best first, at which the running total reaches the amount offered.
-pub fn first_reaching(
-    o: Offer,
-    rates: [Rate; 640],
-    amounts: [Amount; 640],
-    keys: [u64; 640],
-    n: usize,
-) -> MarginalRate
-    requires { ⌜ total (bidsFrom rates amounts 0 640) ≤ mostBids ⌝ }
-    requires { ⌜ Ranked (viewed o) rates amounts 640 keys n ⌝ }
-    requires { ⌜ Rising keys n ⌝ }
-    ensures { λ r. ⌜ rateIn r ≡ marginalRate (viewed o) (bidsFrom rates amounts 0 640) ⌝ }
+pub fn first_reaching(o: Offer, rates: &[u32], amounts: &[u64], keys: &[u64]) -> MarginalRate
+    requires { ⌜ length (now rates) ≡ length (now amounts) ⌝ }
+    requires { ⌜ total (bidsOf (now rates) (now amounts)) ≤ mostBids ⌝ }
+    requires { ⌜ Ranked (viewed o) (bidsOf (now rates) (now amounts)) (now keys) ⌝ }
+    requires { ⌜ Rising (now keys) ⌝ }
+    ensures { λ r. ⌜ rateIn r ≡ marginalRate (viewed o) (bidsOf (now (rates .entry)) (now (amounts .entry))) ⌝ }
 {
     let mut sum = 0;
     let mut j = 0;
     let found = loop {
-        if j == n {
+        if j == keys.len() {
             break MarginalRate::None;
         }
         let i = (keys[j] % 1024) as usize;
         let b = Bid {
-            rate: rates[i],
-            amount: amounts[i],
+            rate: Rate(rates[i]),
+            amount: Amount(amounts[i]),
         };
         sum += b.amount.0;
         if o.offered.0 <= sum {
@@ -93,14 +90,25 @@ pub fn first_reaching(
     found
 }
 
-// The marginal rate of a book.
-pub fn marginal_rate(o: Offer, rates: [Rate; 640], amounts: [Amount; 640]) -> MarginalRate
-    requires { ⌜ total (bidsFrom rates amounts 0 640) ≤ mostBids ⌝ }
-    ensures { λ r. ⌜ rateIn r ≡ marginalRate (viewed o) (bidsFrom rates amounts 0 640) ⌝ }
+// Sorts the keys and walks over them.
+fn walk(o: Offer, rates: &[u32], amounts: &[u64], keys: &mut [u64]) -> MarginalRate
+    requires { ⌜ length (now rates) ≡ length (now amounts) ⌝ }
+    requires { ⌜ total (bidsOf (now rates) (now amounts)) ≤ mostBids ⌝ }
+    requires { ⌜ Ranked (viewed o) (bidsOf (now rates) (now amounts)) (now keys) ⌝ }
+    ensures { λ r. ⌜ rateIn r ≡ marginalRate (viewed o) (bidsOf (now (rates .entry)) (now (amounts .entry))) ⌝ }
 {
-    let k = keys_in(o, rates, amounts);
-    let n = k.n;
-    let keys = k.keys;
-    let rising = sorted(keys, n);
-    first_reaching(o, rates, amounts, rising, n)
+    sort(keys);
+    first_reaching(o, rates, amounts, keys)
+}
+
+// The marginal rate of the bids.
+pub fn marginal_rate(o: Offer, rates: &[u32], amounts: &[u64]) -> MarginalRate
+    requires { ⌜ length (now rates) ≡ length (now amounts) ⌝ }
+    requires { ⌜ length (now amounts) ≤ 640 ⌝ }
+    requires { ⌜ total (bidsOf (now rates) (now amounts)) ≤ mostBids ⌝ }
+    ensures { λ r. ⌜ rateIn r ≡ marginalRate (viewed o) (bidsOf (now (rates .entry)) (now (amounts .entry))) ⌝ }
+{
+    let mut keys = [0u64; 640];
+    let n = keys_in(o, rates, amounts, &mut keys);
+    walk(o, rates, amounts, &mut keys[0..n])
 }

@@ -8,9 +8,3 @@ pub enum MarginalRate {
     At(Rate),
     None,
 }
-
-// The keys of the bids in, and how many they are.
-pub struct Keys {
-    pub keys: [u64; 640],
-    pub n: usize,
-}

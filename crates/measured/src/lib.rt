@@ -1,13 +1,11 @@
 // For measuring only: one share and one allotment, on numbers that a benchmark in C gives.
-use allotment::allot;
+use allotment::internal::allot;
 use division::internal::divide;
 use envelope::announcement::Side;
 use marginal::MarginalRate;
 use offer::Offer;
 use places::Amount;
 use places::Rate;
-ghost use Prim.Native.Nat.{_≤_};
-ghost use lib.ListN.{length};
 
 // What stands for no marginal rate: the first number past every rate.
 const NO_RATE: u64 = 4294967296;
@@ -30,36 +28,10 @@ pub extern "C" fn measured_share(a: u64, m: u64, e: u64) -> u64 {
     divide(Amount(a), Amount(m), Amount(e)).quotient.0
 }
 
-fn rates_of(numbers: &[u32]) -> [Rate; 640]
-    requires { ⌜ 640 ≤ length (now numbers) ⌝ }
-{
-    let mut rates = [Rate(0); 640];
+fn clear(awards: &mut [u64]) {
     let mut i = 0;
-    while i < 640 {
-        rates[i] = Rate(numbers[i]);
-        i += 1;
-    }
-    rates
-}
-
-fn amounts_of(numbers: &[u64]) -> [Amount; 640]
-    requires { ⌜ 640 ≤ length (now numbers) ⌝ }
-{
-    let mut amounts = [Amount(0); 640];
-    let mut i = 0;
-    while i < 640 {
-        amounts[i] = Amount(numbers[i]);
-        i += 1;
-    }
-    amounts
-}
-
-fn put_awards(space: &mut [u64], awards: [Amount; 640])
-    requires { ⌜ 640 ≤ length (now space) ⌝ }
-{
-    let mut i = 0;
-    while i < 640 {
-        space[i] = awards[i].0;
+    while i < awards.len() {
+        awards[i] = 0;
         i += 1;
     }
 }
@@ -75,7 +47,7 @@ fn number_of(m: MarginalRate) -> u64 {
     }
 }
 
-// Allots to 640 places, writes the awards and gives the marginal rate or one of the numbers above, for measuring only.
+// Allots to 640 places, writes the awards, zeros where condition 16 refuses, and gives the marginal rate or one of the numbers above, for measuring only.
 #[no_mangle]
 pub extern "C" fn measured_allot(
     lp: bool,
@@ -99,10 +71,9 @@ pub extern "C" fn measured_allot(
         limit: Rate(limit),
         offered: Amount(offered),
     };
-    let a = allot(o, rates_of(rates), amounts_of(amounts));
-    let given = a.awards;
-    put_awards(awards, given);
+    let a = allot(o, &rates[0..640], &amounts[0..640], &mut awards[0..640]);
     if a.exceeds {
+        clear(awards);
         return EXCEEDS;
     }
     let marginal = a.marginal;

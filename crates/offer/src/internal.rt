@@ -1,5 +1,6 @@
-// Totals over the book's places, which condition 16 keeps within 64 bits.
+// Totals over the bids, which condition 16 keeps within 64 bits.
 use crate::Offer;
+use crate::Totals;
 use crate::stands_better;
 use crate::stands_equal;
 use bids::Bid;
@@ -8,8 +9,9 @@ use places::Rate;
 ghost use mathlib.Core.Path.{_≡_};
 ghost use mathlib.Core.Bool.{cond};
 ghost use Prim.Native.Nat.{_≤_};
+ghost use lib.ListN.{length};
 ghost use Rattle.rules.specs.Allotment.{total, totalBetter, totalEqual};
-ghost use Rattle.bids.specs.Columns.{bidsFrom};
+ghost use Rattle.bids.specs.Columns.{bidsOf};
 ghost use Rattle.offer.specs.Viewed.{viewed, mostBids};
 
 // A number where a condition holds, else zero.
@@ -22,38 +24,26 @@ pub fn where_holds(condition: bool, n: u64) -> u64
     0
 }
 
-// The total at rates better than this one.
-pub fn total_better(o: Offer, rates: [Rate; 640], amounts: [Amount; 640], rate: Rate) -> Amount
-    requires { ⌜ total (bidsFrom rates amounts 0 640) ≤ mostBids ⌝ }
-    ensures { λ r. ⌜ r .0 ≡ totalBetter (viewed o) (bidsFrom rates amounts 0 640) (rate .0) ⌝ }
+// The totals at rates better than this one, and at it.
+pub fn totals(o: Offer, rates: &[u32], amounts: &[u64], rate: Rate) -> Totals
+    requires { ⌜ length (now rates) ≡ length (now amounts) ⌝ }
+    requires { ⌜ total (bidsOf (now rates) (now amounts)) ≤ mostBids ⌝ }
+    ensures { λ r. ⌜ (r .better .0 ≡ totalBetter (viewed o) (bidsOf (now (rates .entry)) (now (amounts .entry))) (rate .0)) × (r .equal .0 ≡ totalEqual (viewed o) (bidsOf (now (rates .entry)) (now (amounts .entry))) (rate .0)) ⌝ }
 {
-    let mut sum = 0;
+    let mut better = 0;
+    let mut equal = 0;
     let mut i = 0;
-    while i < 640 {
+    while i < amounts.len() {
         let b = Bid {
-            rate: rates[i],
-            amount: amounts[i],
+            rate: Rate(rates[i]),
+            amount: Amount(amounts[i]),
         };
-        sum += where_holds(stands_better(o, b, rate), b.amount.0);
+        better += where_holds(stands_better(o, b, rate), b.amount.0);
+        equal += where_holds(stands_equal(o, b, rate), b.amount.0);
         i += 1;
     }
-    Amount(sum)
-}
-
-// The total at this rate.
-pub fn total_equal(o: Offer, rates: [Rate; 640], amounts: [Amount; 640], rate: Rate) -> Amount
-    requires { ⌜ total (bidsFrom rates amounts 0 640) ≤ mostBids ⌝ }
-    ensures { λ r. ⌜ r .0 ≡ totalEqual (viewed o) (bidsFrom rates amounts 0 640) (rate .0) ⌝ }
-{
-    let mut sum = 0;
-    let mut i = 0;
-    while i < 640 {
-        let b = Bid {
-            rate: rates[i],
-            amount: amounts[i],
-        };
-        sum += where_holds(stands_equal(o, b, rate), b.amount.0);
-        i += 1;
+    Totals {
+        better: Amount(better),
+        equal: Amount(equal),
     }
-    Amount(sum)
 }

@@ -9,8 +9,7 @@ use places::Amount;
 use places::Rate;
 ghost use mathlib.Core.Path.{_≡_};
 ghost use lib.Dec.{ltb};
-ghost use Rattle.rules.specs.Allotment.{betterRate, isIn, isBetter, isEqual, total};
-ghost use Rattle.bids.specs.Columns.{bidsFrom};
+ghost use Rattle.rules.specs.Allotment.{betterRate, isIn, isBetter, isEqual, sum};
 ghost use Rattle.bids.specs.Columns as columns;
 ghost use Rattle.offer.specs.Viewed.{viewed, mostBids};
 
@@ -19,6 +18,12 @@ pub struct Offer {
     pub side: Side,
     pub limit: Rate,
     pub offered: Amount,
+}
+
+// The totals at rates better than one, and at it.
+pub struct Totals {
+    pub better: Amount,
+    pub equal: Amount,
 }
 
 // Whether a rate is better than another.
@@ -55,14 +60,14 @@ pub fn stands_equal(o: Offer, b: Bid, rate: Rate) -> bool
 }
 
 // Whether the bids in the book exceed what condition 16 allows; what is left of that falls to zero, so that no sum can overflow.
-pub fn exceeds(rates: [Rate; 640], amounts: [Amount; 640]) -> bool
-    ensures { λ r. ⌜ r ≡ ltb mostBids (total (bidsFrom rates amounts 0 640)) ⌝ }
+pub fn exceeds(amounts: &[u64]) -> bool
+    ensures { λ r. ⌜ r ≡ ltb mostBids (sum (now (amounts .entry))) ⌝ }
 {
     let mut over = false;
     let mut left = 999_999_999_999_999_999;
     let mut i = 0;
-    while i < 640 {
-        let amount = amounts[i].0;
+    while i < amounts.len() {
+        let amount = amounts[i];
         over = over | (left < amount);
         left = less(left, amount);
         i += 1;

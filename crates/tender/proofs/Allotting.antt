@@ -1,104 +1,129 @@
 -- What allotting gives: refused, zeros and the tender that came in; else the awards and the tender announced. Assumes nothing.
-use mathlib.Core.Path.{_≡_, refl, sym, ap, subst, _∙_}
+use mathlib.Core.Path.{_≡_, refl, sym, ap, ap₂, subst, _∙_}
 use mathlib.Core.Bool.{Bool, true, false, cond}
-use mathlib.Core.List.{List, map}
+use mathlib.Core.List.{List, [], _∷_, _++_}
 use mathlib.Core.Option.{Option, none, some}
-use Prim.Native.Nat.{ℕ, zero, suc, _-_}
+use Prim.Native.Nat.{ℕ, zero, suc, _-_, _≤_}
+use native.Mathlib.Nat.{sub-zero}
 use native.Mathlib.Omega.{arith}
 use lib.Dec.{ltb}
-use lib.ListN.{length, replicate}
+use lib.ListN.{length, take, drop, replicate, take-append-drop}
 use Rattle.envelope.specs.Refusals.{firstHolding, unlessRefused}
-use Rattle.places.specs.declared.Amount.{Amount}
-use Rattle.rules.specs.Allotment.{Bid, Offer, noBid, total, awards, marginalRate}
+use Rattle.rules.specs.Allotment.{Bid, Offer, total, awards, marginalRate}
 use Rattle.rules.specs.Opening.{offerOf}
 use Rattle.rules.specs.Calls as rules
-use Rattle.rules.specs.Calls.{isRevoked, isOpen, isAnnounced, bidsExceed, allottingRefused, bidsInBook, places640, allotment, notAllotted, allot}
+use Rattle.rules.specs.Calls.{isRevoked, isOpen, isAnnounced, bidsExceed, allottingRefused, bidsInBook, allotment, notAllotted, allot}
 use Rattle.offer.specs.Viewed.{mostBids}
-use Rattle.offer.proofs.Totals.{total-append}
-use Rattle.marginal.specs.declared.MarginalRate.{MarginalRate}
 use Rattle.marginal.specs.Ranks.{rateIn}
-use Rattle.allotment.specs.declared.Allotment.{Allotment}
-use Rattle.allotment.specs.Allotted as allotted
-use Rattle.bids.specs.Columns.{cents}
-use Rattle.tender.specs.declared.State.{State}
-use Rattle.tender.specs.declared.State.the-variants as state
+use Rattle.awards.proofs.Loops.{length-awards}
+use Rattle.allotment.specs.Allotted.{allotted}
+use Rattle.allotment.proofs.Absent.{awards-640, marginal-640}
 use Rattle.tender.specs.declared.Refusal.{Refusal}
-use Rattle.tender.specs.declared.Refusal.the-variants as refusal
 use Rattle.tender.specs.declared.Tender.{Tender}
-use Rattle.tender.specs.Viewed.{viewed, Given, numberOf, isSome, inStateOf, unallottedOf}
-use Rattle.tender.specs.Calls.{Allots}
-use Rattle.tender.proofs.Ladders.{kept-old}
+use Rattle.tender.specs.declared.Changed.{Changed}
+use Rattle.tender.specs.declared.internal.AllotAnswer.{AllotAnswer}
+use Rattle.tender.specs.Viewed.{viewed, Given, numberOf, isSome}
+use Rattle.tender.specs.Calls.{notClosed, awardedTo, Changes, AllotsBids, Allots}
+use Rattle.tender.proofs.Conditions.{refused-first, refused-later, kept-old}
 
--- the number in a state
-pub number-in : (t : Tender) (s : State) → t .state ≡ s → allottingRefused (viewed t) ≡ allottingRefused (viewed (inStateOf s t))
-number-in t s e = ap (λ (x : State). allottingRefused (viewed (inStateOf x t))) e
+module _ (t : Tender) (space : List ℕ) (r : AllotAnswer) where
+  -- refused whatever the bids
+  pub allots-not : numberOf (r .refusal) ≡ notClosed (viewed t) → isSome (numberOf (r .refusal)) ≡ true → rateIn (r .marginal) ≡ none → AllotsBids t space r space
+  unfolding allottingRefused
+  allots-not e h m =
+      let x = viewed t in
+      record {
+        number = sym (refused-first ((8, isRevoked x) ∷ (14, isOpen x) ∷ (15, isAnnounced x) ∷ []) ((16, bidsExceed x) ∷ []) (numberOf (r .refusal)) e h);
+        awarded = (λ i. (m i, space)) ∙ sym (kept-old (numberOf (r .refusal)) (none, space) (awardedTo x) h);
+      }
 
-pub allots-refused : (t : Tender) → Given t → (r : Refusal) → allottingRefused (viewed t) ≡ numberOf r → isSome (numberOf r) ≡ true → Allots t (unallottedOf r t)
-unfolding allot
-allots-refused t g r e h =
-    let number = allottingRefused (viewed t) in
-    let some = ap isSome e ∙ h in
-    record {
-      equal = λ i. (
-        sym e i,
-        sym (kept-old number (viewed t) (rules.inState rules.Announced (viewed t)) some) i,
-        sym (kept-old number notAllotted (allotment (viewed t .terms) (bidsInBook (viewed t .book))) some) i,
-      );
-      unchanged = sym (kept-old (numberOf r) t t h);
-      given = g;
-    }
+  -- refused by condition 16, or not
+  pub allots-bids : (first : Option ℕ) (bs : List Bid) (exceeds : Bool) (after : List ℕ) → bs ≡ bidsInBook (viewed t .book) → first ≡ notClosed (viewed t) → isSome first ≡ false
+      → numberOf (r .refusal) ≡ firstHolding ((16, exceeds) ∷ []) → _≡_ {A = Bool × Option ℕ × List ℕ} (exceeds, rateIn (r .marginal), after) (allotted (offerOf (viewed t .terms)) bs space) → AllotsBids t space r after
+  unfolding allottingRefused firstHolding bidsExceed allotted
+  allots-bids first bs exceeds after all e h n a = go (ltb mostBids (total bs)) refl
+    where
+      given : (b : Bool) → ltb mostBids (total bs) ≡ b
+          → _≡_ {A = Bool × Option ℕ × List ℕ} (exceeds, rateIn (r .marginal), after) (cond b (true, none, space) (false, marginalRate (offerOf (viewed t .terms)) bs, awards (offerOf (viewed t .terms)) bs))
+      given b q = a ∙ ap (λ (y : Bool). cond {A = Bool × Option ℕ × List ℕ} y (true, none, space) (false, marginalRate (offerOf (viewed t .terms)) bs, awards (offerOf (viewed t .terms)) bs)) q
 
-pub allots-announced : (t : Tender) → Given t → (xs : List Amount) (m : MarginalRate) (next : Tender) → allottingRefused (viewed t) ≡ none
-    → _≡_ {A = rules.Allotted} (record { awards = map cents xs; marginal = rateIn m }) (allotment (viewed t .terms) (bidsInBook (viewed t .book))) → next ≡ inStateOf state.Announced t
-    → Allots t (record { refusal = refusal.None; tender = next; awards = xs; marginal = m })
-unfolding allot
-allots-announced t g xs m next e a s =
-    let old = viewed t in
-    let new = rules.inState rules.Announced old in
-    let awarded = allotment (viewed t .terms) (bidsInBook (viewed t .book)) in
-    record {
-      equal =
-          (λ i. (sym e i, viewed (s i), a i))
-          ∙ sym (ap (λ (l : Option ℕ). (allottingRefused old, unlessRefused l old new, unlessRefused l notAllotted awarded)) e);
-      unchanged = refl;
-      given = subst Given (sym s) (record { rises = g .rises });
-    }
+      asked : (b : Bool) → ltb mostBids (total bs) ≡ b → allottingRefused (viewed t) ≡ cond b (some 16) none
+      asked b q =
+          refused-later ((8, isRevoked (viewed t)) ∷ (14, isOpen (viewed t)) ∷ (15, isAnnounced (viewed t)) ∷ []) ((16, bidsExceed (viewed t)) ∷ []) first e h
+          ∙ ap (λ (y : Bool). cond {A = Option ℕ} y (some 16) none) (ap (λ (l : List Bid). ltb mostBids (total l)) (sym all) ∙ q)
 
-total-zeros : (n : ℕ) → total (replicate n noBid) ≡ 0
-unfolding total
-total-zeros zero = refl
-total-zeros (suc n) = omega (arith, total-zeros n)
+      told : (b : Bool) → ltb mostBids (total bs) ≡ b → exceeds ≡ b → numberOf (r .refusal) ≡ cond b (some 16) none
+      told b q p = n ∙ ap (λ (y : Bool). cond {A = Option ℕ} y (some 16) none) p
 
--- places past the last code add nothing
-total-places : (bs : List Bid) → total (places640 bs) ≡ total bs
-unfolding places640
-total-places bs = omega (arith, total-append bs (replicate (640 - length bs) noBid), total-zeros (640 - length bs))
+      go : (b : Bool) → ltb mostBids (total bs) ≡ b → AllotsBids t space r after
+      go true q =
+          let g = given true q in
+          let number = told true q (ap (λ (y : Bool × Option ℕ × List ℕ). y .0) g) in
+          record {
+            number = number ∙ sym (asked true q);
+            awarded = ap (λ (y : Bool × Option ℕ × List ℕ). (y .1, y .2)) g ∙ sym (ap (λ (l : Option ℕ). unlessRefused l (none, space) (awardedTo (viewed t))) number);
+          }
+      go false q =
+          let g = given false q in
+          let number = told false q (ap (λ (y : Bool × Option ℕ × List ℕ). y .0) g) in
+          record {
+            number = number ∙ sym (asked false q);
+            awarded =
+                ap (λ (y : Bool × Option ℕ × List ℕ). (y .1, y .2)) g
+                ∙ ap (λ (l : List Bid). (marginalRate (offerOf (viewed t .terms)) l, awards (offerOf (viewed t .terms)) l)) all
+                ∙ sym (ap (λ (l : Option ℕ). unlessRefused l (none, space) (awardedTo (viewed t))) number);
+          }
 
-exceeds-is : (o : Offer) (bs : List Bid) → allotted.allotted o bs .0 ≡ ltb mostBids (total bs)
-unfolding allotted.allotted
-exceeds-is o bs = go (ltb mostBids (total bs))
-  where
-    go : (t : Bool) → (cond {A = Bool × rules.Allotted} t (true, notAllotted) (false, record { awards = awards o bs; marginal = marginalRate o bs })) .0 ≡ t
-    go true = refl
-    go false = refl
+-- what is left of zeros
+zeros-after : (m n : ℕ) → m ≤ n → drop {A = ℕ} m (replicate n 0) ≡ replicate (n - m) 0
+zeros-after zero n h = ap (λ (k : ℕ). replicate {A = ℕ} k 0) (sym (sub-zero n))
+zeros-after (suc m) zero h = absurd (omega arith)
+zeros-after (suc m) (suc n) h =
+    let e : n - m ≡ suc n - suc m = omega arith in
+    zeros-after m n (omega arith) ∙ ap (λ (k : ℕ). replicate {A = ℕ} k 0) e
 
--- the allotment of a closed tender's places
-module _ (t : Tender) (closed : t .state ≡ state.Closed) (bs : List Bid) (a : Allotment)
-    (all : bs ≡ places640 (bidsInBook (viewed t .book))) (e : allotted.viewed a ≡ allotted.allotted (offerOf (viewed t .terms)) bs) where
-  exceeds : bidsExceed (viewed t) ≡ a .exceeds
-  unfolding bidsExceed
-  exceeds =
-      ap (ltb mostBids) (sym (total-places (bidsInBook (viewed t .book))) ∙ sym (ap total all))
-      ∙ sym (exceeds-is (offerOf (viewed t .terms)) bs)
-      ∙ sym (ap (λ (x : Bool × rules.Allotted). x .0) e)
+-- the awards of all places: those of the bids in the book, then zeros
+module _ (t : Tender) (g : Given t) (a : AllotAnswer) (c : Changed) (n : ℕ) (part zeros : List ℕ) (z : zeros ≡ replicate 640 0) (few : n ≤ 640) (long : length part ≡ n)
+    (awarded : AllotsBids t (take (n - 0) zeros) a part)
+    (changed : Changes t (numberOf (a .refusal), unlessRefused (numberOf (a .refusal)) (viewed t) (rules.inState rules.Announced (viewed t))) c) where
+  abbrev bs : List Bid
+  bs = bidsInBook (viewed t .book)
 
-  pub number-closed : allottingRefused (viewed t) ≡ cond (a .exceeds) (some 16) none
-  unfolding allottingRefused firstHolding isRevoked isOpen isAnnounced bidsExceed
-  number-closed = number-in t state.Closed closed ∙ ap (λ (x : Bool). cond x (some 16) none) exceeds
+  abbrev o : Offer
+  o = offerOf (viewed t .terms)
 
-  pub awards-are : a .exceeds ≡ false → allotted.viewed a .1 ≡ allotment (viewed t .terms) (bidsInBook (viewed t .book))
-  unfolding allotted.allotted allotment
-  awards-are h =
-      ap (λ (x : Bool × rules.Allotted). x .1) e
-      ∙ rw (sym (exceeds-is (offerOf (viewed t .terms)) bs) ∙ sym (ap (λ (x : Bool × rules.Allotted). x .0) e) ∙ h)
-      (ap (λ (l : List Bid). record { awards = awards (offerOf (viewed t .terms)) l; marginal = marginalRate (offerOf (viewed t .terms)) l }) all)
+  last-zeros : drop (n - 0) zeros ≡ replicate (640 - n) 0
+  last-zeros = ap₂ (λ (k : ℕ) (l : List ℕ). drop k l) (sub-zero n) z ∙ zeros-after n 640 few
+
+  all-zeros : take (n - 0) zeros ++ drop (n - 0) zeros ≡ replicate 640 0
+  all-zeros = take-append-drop (n - 0) zeros ∙ z
+
+  given-by : (l : Option ℕ) → numberOf (a .refusal) ≡ l
+      → _≡_ {A = rules.Allotted} (record { awards = part ++ drop (n - 0) zeros; marginal = rateIn (a .marginal) }) (unlessRefused l notAllotted (allotment (viewed t .terms) bs))
+  unfolding allotment
+  given-by none e =
+      let p = awarded .awarded ∙ ap (λ (l : Option ℕ). unlessRefused l (none, take (n - 0) zeros) (awardedTo (viewed t))) e in
+      let is : part ≡ awards o bs = ap (λ (x : Option ℕ × List ℕ). x .1) p in
+      let many : n ≡ length bs = sym long ∙ ap length is ∙ length-awards o bs in
+      λ i. record {
+        awards = (ap₂ (λ (x y : List ℕ). x ++ y) is (last-zeros ∙ ap (λ (k : ℕ). replicate (640 - k) 0) many) ∙ sym (awards-640 o bs)) i;
+        marginal = (ap (λ (x : Option ℕ × List ℕ). x .0) p ∙ sym (marginal-640 o bs)) i;
+      }
+  given-by (some k) e =
+      let p = awarded .awarded ∙ ap (λ (l : Option ℕ). unlessRefused l (none, take (n - 0) zeros) (awardedTo (viewed t))) e in
+      λ i. record {
+        awards = (ap (λ (x : Option ℕ × List ℕ). x .1 ++ drop (n - 0) zeros) p ∙ all-zeros) i;
+        marginal = ap (λ (x : Option ℕ × List ℕ). x .0) p i;
+      }
+
+  pub allots : c .refusal ≡ a .refusal → Allots t (record { refusal = a .refusal; tender = c .tender; awards = part ++ drop (n - 0) zeros; marginal = a .marginal })
+  unfolding allot
+  allots same =
+      let number = awarded .number in
+      record {
+        equal =
+            (λ i. (numberOf (a .refusal), ap (λ (x : Option ℕ × rules.Tender). x .1) (changed .equal) i, given-by (numberOf (a .refusal)) refl i))
+            ∙ ap (λ (l : Option ℕ). (l, unlessRefused l (viewed t) (rules.inState rules.Announced (viewed t)), unlessRefused l notAllotted (allotment (viewed t .terms) bs))) number;
+        unchanged = subst (λ (r : Refusal). c .tender ≡ unlessRefused (numberOf r) t (c .tender)) same (changed .unchanged);
+        given = changed .given;
+      }

@@ -1,7 +1,7 @@
-pub mod Ladders
+pub mod Conditions
 pub mod Changing
-pub mod Allotting
 pub mod Answering
 pub mod Opening
 pub mod ArrivalOrder
 pub mod Outcomes
+pub mod Allotting

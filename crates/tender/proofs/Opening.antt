@@ -43,9 +43,9 @@ refused-some Impossible h = (5, refl)
 refused-some Disordered h = (6, refl)
 refused-some BadCodes h = (7, refl)
 
-module _ (m codes : List ℕ) (a : OpenAnswer) (t : declared.Terms) (b : Book)
+module _ (m codes : List ℕ) (a : OpenAnswer) (t : declared.Terms)
     (e : _≡_ {A = Option ℕ × rules.Terms} (openRefusal a, terms.viewed t (admittedIn m codes)) (opening m codes)) where
-  number : openRefusal a ≡ openingRefused m codes
+  pub number : openRefusal a ≡ openingRefused m codes
   unfolding opening
   number = ap (λ (p : Option ℕ × rules.Terms). p .0) e
 
@@ -53,30 +53,31 @@ module _ (m codes : List ℕ) (a : OpenAnswer) (t : declared.Terms) (b : Book)
   unfolding opening admittedIn
   terms-are = ap (λ (p : Option ℕ × rules.Terms). p .1) e
 
-  module _ (h : isOpened a ≡ true) (k : book.viewed b ≡ newBook (take 64 codes)) where
-    none-holds : openingRefused m codes ≡ none
-    none-holds = sym number ∙ opened-none a h
+  -- no condition holds, and the terms are those of the announcement
+  pub none-holds : isOpened a ≡ true → openingRefused m codes ≡ none
+  none-holds h = sym number ∙ opened-none a h
 
+  pub terms-open : isOpened a ≡ true → terms.viewed t codes ≡ termsOf m codes
+  terms-open h = rw (none-holds h) at terms-are
+
+  module _ (b : Book) (h : isOpened a ≡ true) (k : book.viewed b ≡ newBook (take 64 codes)) where
     entries : book.viewed b ≡ newBook codes
-    entries = k ∙ new-whole codes (few-codes m codes none-holds)
+    entries = k ∙ new-whole codes (few-codes m codes (none-holds h))
 
     admitted : book.codesIn (book.viewed b) ≡ codes
     admitted = ap book.codesIn entries ∙ new-codes codes
-
-    terms-open : terms.viewed t (book.codesIn (book.viewed b)) ≡ termsOf m codes
-    terms-open = ap (terms.viewed t) admitted ∙ (rw none-holds at terms-are)
 
     pub opens : Opens m codes (record { answer = a; tender = record { state = state.Open; terms = t; book = b } })
     unfolding openTender
     opens =
         record {
           equal =
-              (λ i. (number i, record { terms = terms-open i; state = Open; book = entries i }))
-              ∙ sym (ap (λ (l : Option ℕ). (openingRefused m codes, unlessRefused l noTender (record { terms = termsOf m codes; state = Open; book = newBook codes }))) none-holds);
-          given = record { rises = ap rising admitted ∙ rising-codes m codes none-holds };
+              (λ i. (number i, record { terms = (ap (terms.viewed t) admitted ∙ terms-open h) i; state = Open; book = entries i }))
+              ∙ sym (ap (λ (l : Option ℕ). (openingRefused m codes, unlessRefused l noTender (record { terms = termsOf m codes; state = Open; book = newBook codes }))) (none-holds h));
+          given = record { rises = ap rising admitted ∙ rising-codes m codes (none-holds h) };
         }
 
-  module _ (h : isOpened a ≡ false) (k : book.viewed b ≡ newBook (take 64 [])) where
+  module _ (b : Book) (h : isOpened a ≡ false) (k : book.viewed b ≡ newBook (take 64 [])) where
     no-entries : book.viewed b ≡ []
     unfolding newBook
     no-entries = k

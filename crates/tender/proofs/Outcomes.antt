@@ -17,7 +17,7 @@ use Rattle.tender.specs.Viewed.{viewed, numberOf, isSome}
 use Rattle.tender.specs.Calls.{Left, ComesTo}
 
 module _ (t : Tender) (m : List ℕ) (date time room : ℕ) (o : Outcome) where
-  pub comes-refused : (f : Refusal) → o .refusal ≡ f → o .errors .n ≡ 0 → o .at ≡ 0 → isSome (numberOf f) ≡ true
+  pub comes-refused : (f : Refusal) → o .refusal ≡ f → o .errors .n ≡ 0 → o .accepted .at ≡ 0 → isSome (numberOf f) ≡ true
       → ((space : List ℕ) → length space ≡ room → receivingRefused (viewed t) (received m date time space) ≡ numberOf f) → ComesTo t m date time room o
   comes-refused f e none-there first refused h =
       let not-none : numberOf (o .refusal) ≡ none → ⊥ = λ q. false≢true (sym (ap isSome q) ∙ ap (λ (r : Refusal). isSome (numberOf r)) e ∙ refused) in
@@ -31,6 +31,6 @@ module _ (t : Tender) (m : List ℕ) (date time room : ℕ) (o : Outcome) where
       }
 
   pub comes-answered : numberOf (o .refusal) ≡ none → 418 ≤ room → readable layout6G1 m ≡ true → ((space : List ℕ) → Left t (received m date time space) o)
-      → o .errors .n ≤ 16 → o .at < 64 → ((space : List ℕ) → length space ≡ room → receivingRefused (viewed t) (received m date time space) ≡ none) → ComesTo t m date time room o
+      → o .errors .n ≤ 16 → o .accepted .at < 64 → ((space : List ℕ) → length space ≡ room → receivingRefused (viewed t) (received m date time space) ≡ none) → ComesTo t m date time room o
   comes-answered e enough is-readable left few within h =
       record { number = λ space l. e ∙ sym (h space l); roomy = λ q. enough; readable-told = λ q. is-readable; left = λ q. left; few = few; within = within }

@@ -10,7 +10,11 @@ use Rattle.layout.specs.Fields.{readable}
 use Rattle.envelope.specs.Application.{layout6G1}
 use Rattle.envelope.specs.Refusals.{firstHolding, unlessRefused}
 use Rattle.rules.specs.Receiving.{Reception, Error, Entry, returnedErrors}
+use Rattle.rules.specs.Allotment.{awards, marginalRate}
+use Rattle.rules.specs.Opening.{offerOf}
 use Rattle.rules.specs.Calls as rules
+use Rattle.bids.specs.Columns.{bidsOf}
+use Rattle.marginal.specs.Ranks.{rateIn}
 use Rattle.errors.specs.Listed.{listed}
 use Rattle.terms.specs.Viewed.{openRefusal}
 use Rattle.checks.specs.Columns.{received}
@@ -21,11 +25,16 @@ use Rattle.tender.specs.declared.Received.{Received}
 use Rattle.tender.specs.declared.Changed.{Changed}
 use Rattle.tender.specs.declared.Allotted.{Allotted}
 use Rattle.tender.specs.declared.internal.Outcome.{Outcome}
+use Rattle.tender.specs.declared.internal.AllotAnswer.{AllotAnswer}
 use Rattle.tender.specs.Viewed.{viewed, Given, numberOf, answerOf, errorsIn, lengthIn, unlessConfirmed, entriesAfter, allottedIn}
 
 -- conditions 8, 9 and 10, which receiving and closing ask first
 abbrev pub notOpen : rules.Tender → ℕ → ℕ → Option ℕ
 notOpen t date time = firstHolding ((8, rules.isRevoked t) ∷ (9, rules.isOver t) ∷ (10, rules.clockInvalid date time) ∷ [])
+
+-- conditions 8, 14 and 15, which allotting asks first
+abbrev pub notClosed : rules.Tender → Option ℕ
+notClosed t = firstHolding ((8, rules.isRevoked t) ∷ (14, rules.isOpen t) ∷ (15, rules.isAnnounced t) ∷ [])
 
 -- what the rules answer where no condition refuses the reception
 abbrev pub answered : rules.Tender → Reception → rules.Answer × rules.Tender × List ℕ
@@ -46,7 +55,7 @@ pub record ComesTo (t : Tender) (m : List ℕ) (date time room : ℕ) (o : Outco
   pub readable-told : numberOf (o .refusal) ≡ none → readable layout6G1 m ≡ true
   pub left : numberOf (o .refusal) ≡ none → (space : List ℕ) → Left t (received m date time space) o
   pub few : o .errors .n ≤ 16
-  pub within : o .at < 64
+  pub within : o .accepted .at < 64
 
 -- the reply space is `after` the call
 pub record Receives (t : Tender) (expected : rules.Answer × rules.Tender × List ℕ) (r : Received) (after : List ℕ) : Type 0 where
@@ -67,3 +76,17 @@ pub record Allots (t : Tender) (r : Allotted) : Type 0 where
   pub equal : (numberOf (r .refusal), viewed (r .tender), allottedIn r) ≡ rules.allot (viewed t)
   pub unchanged : r .tender ≡ unlessRefused (numberOf (r .refusal)) t (r .tender)
   pub given : Given (r .tender)
+
+-- the rates of the bids of entries, in book order
+pub record RatesIn (es : List Entry) (rates : List ℕ) : Type 0 where
+  pub amounts : List ℕ
+  pub bids : bidsOf rates amounts ≡ rules.bidsInBook es
+
+-- the marginal rate and the awards of the bids in the book
+abbrev pub awardedTo : rules.Tender → Option ℕ × List ℕ
+awardedTo t = (marginalRate (offerOf (t .terms)) (rules.bidsInBook (t .book)), awards (offerOf (t .terms)) (rules.bidsInBook (t .book)))
+
+-- allotting with a space for the awards of the bids in the book; refused, there is no marginal rate and the space is as it was
+pub record AllotsBids (t : Tender) (space : List ℕ) (r : AllotAnswer) (after : List ℕ) : Type 0 where
+  pub number : numberOf (r .refusal) ≡ rules.allottingRefused (viewed t)
+  pub awarded : _≡_ {A = Option ℕ × List ℕ} (rateIn (r .marginal), after) (unlessRefused (numberOf (r .refusal)) (none, space) (awardedTo (viewed t)))

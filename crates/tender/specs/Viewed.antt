@@ -1,21 +1,19 @@
 -- The code's tender, refusals and answers as document 01's. Assumes nothing.
 use mathlib.Core.Path.{_≡_}
 use mathlib.Core.Bool.{Bool, true, false, cond, not, _&&_}
-use mathlib.Core.List.{List, [], map}
+use mathlib.Core.List.{List, []}
 use mathlib.Core.Option.{Option, none, some}
 use Prim.Native.Nat.{ℕ}
 use lib.Dec.{eqb}
-use lib.ListN.{replicate}
 use Rattle.rules.specs.Opening.{rising}
 use Rattle.rules.specs.Receiving.{Error, Entry}
 use Rattle.rules.specs.Calls as rules
 use Rattle.errors.specs.Listed.{listed}
 use Rattle.terms.specs.declared.Terms.{Terms}
 use Rattle.terms.specs.Viewed as terms
-use Rattle.bids.specs.Columns.{noAmount, cents, bidsFrom}
+use Rattle.bids.specs.Columns.{bidsFrom}
 use Rattle.book.specs.declared.Book.{Book}
 use Rattle.book.specs.Viewed as book
-use Rattle.marginal.specs.declared.MarginalRate.the-variants as rate
 use Rattle.marginal.specs.Ranks.{rateIn}
 use Rattle.tender.specs.declared.State.{State}
 use Rattle.tender.specs.declared.State.the-variants as state
@@ -23,7 +21,6 @@ use Rattle.tender.specs.declared.Refusal.{Refusal}
 use Rattle.tender.specs.declared.Refusal.the-variants as refusal
 use Rattle.tender.specs.declared.Tender.{Tender}
 use Rattle.tender.specs.declared.Received.{Received}
-use Rattle.tender.specs.declared.Changed.{Changed}
 use Rattle.tender.specs.declared.internal.Outcome.{Outcome}
 use Rattle.tender.specs.declared.Allotted.{Allotted}
 
@@ -67,13 +64,6 @@ tenderOf s t b = record { state = s; terms = t; book = b }
 abbrev pub inStateOf : State → Tender → Tender
 inStateOf s t = record { state = s; terms = t .terms; book = t .book }
 
-abbrev pub changedTo : Refusal → Tender → Changed
-changedTo r t = record { refusal = r; tender = t }
-
--- awards of zero and no marginal rate
-abbrev pub unallottedOf : Refusal → Tender → Allotted
-unallottedOf r t = record { refusal = r; tender = t; awards = replicate 640 noAmount; marginal = rate.None }
-
 -- a reception refused, or answered with the errors and the length of the reply
 abbrev pub answerIn : Option ℕ → List Error → ℕ → rules.Answer
 answerIn none es n = rules.answerTo es n
@@ -105,11 +95,11 @@ isHeld o = not (isSome (numberOf (o .refusal))) && eqb (o .errors .n) 0
 
 -- the book and the tender after a reception: at most the entry of its code changes
 abbrev pub entriesAfter : List Entry → Outcome → List Entry
-entriesAfter es o = cond (isHeld o) (book.replaced es (o .at) (o .time) (bidsFrom (o .rates) (o .amounts) 0 10)) es
+entriesAfter es o = cond (isHeld o) (book.replaced es (o .accepted .at) (o .accepted .time) (bidsFrom (o .accepted .rates) (o .accepted .amounts) 0 10)) es
 
 abbrev pub leftBy : rules.Tender → Outcome → rules.Tender
 leftBy t o = record { terms = t .terms; state = t .state; book = entriesAfter (t .book) o }
 
 -- what allotting gives
 abbrev pub allottedIn : Allotted → rules.Allotted
-allottedIn a = record { awards = map cents (a .awards); marginal = rateIn (a .marginal) }
+allottedIn a = record { awards = a .awards; marginal = rateIn (a .marginal) }

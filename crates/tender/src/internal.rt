@@ -1,44 +1,62 @@
-// What a reception comes to and leaves in the book, and a tender made of its parts.
+// The calls on a tender that comes in its parts, so that whoever changes its book in place makes no copy: what a reception comes to, and why the other calls are refused.
 use crate::Refusal;
 use crate::State;
 use crate::Tender;
 use crate::is_refused;
 use crate::not_open;
+use allotment::internal::allot;
 use book::Book;
 use book::internal::hold;
+use book::internal::in_order;
+use book::no_amounts;
+use calendar::moment_later;
 use envelope::application::Fields;
 use envelope::application::ReadAnswer;
 use envelope::application::read;
 use errors::Errors;
 use errors::none;
+use marginal::MarginalRate;
+use offer::Offer;
 use places::Amount;
 use places::Rate;
 use reception::internal::judge;
 use terms::Terms;
 ghost use mathlib.Core.Path.{_≡_};
 ghost use mathlib.Core.Bool.{true, false, _&&_};
-ghost use mathlib.Core.List.{List};
+ghost use mathlib.Core.List.{List, [], _∷_};
 ghost use mathlib.Core.Option.{none};
-ghost use Prim.Native.Nat.{ℕ, _≤_, _<_};
+ghost use Prim.Native.Nat.{ℕ, _*_, _≤_, _<_};
+ghost use lib.ListN.{length};
+ghost use Rattle.envelope.specs.Refusals.{firstHolding};
 ghost use Rattle.calendar.specs.Calendar.{validDate, validTime};
 ghost use Rattle.layout.specs.Fields.{readable};
 ghost use Rattle.envelope.specs.Application.{layout6G1, fieldsOf};
 ghost use Rattle.rules.specs.Opening.{rising};
+ghost use Rattle.rules.specs.Calls.{closingRefused, revokingRefused, bidsInBook};
+ghost use Rattle.bids.specs.Columns.{bidsOf};
+ghost use Rattle.terms.specs.declared.Terms.{Terms};
+ghost use Rattle.book.specs.declared.Book.{Book};
 ghost use Rattle.book.specs.Viewed as entries;
-ghost use Rattle.book.specs.Viewed.{codesIn};
+ghost use Rattle.book.specs.Viewed.{codesIn, upTo64};
 ghost use Rattle.checks.specs.Columns.{received};
 ghost use Rattle.tender.specs.declared.State.{State};
-ghost use Rattle.tender.specs.Viewed.{Given, numberOf, tenderOf, isHeld, entriesAfter};
-ghost use Rattle.tender.specs.Calls.{Left, ComesTo};
+ghost use Rattle.tender.specs.Viewed.{viewed, Given, numberOf, tenderOf, isHeld, entriesAfter};
+ghost use Rattle.tender.specs.declared.Tender.{Tender};
+ghost use Rattle.tender.specs.Calls.{notClosed, Left, ComesTo, RatesIn, AllotsBids};
 
-// What a reception comes to: why it is refused, else its errors, else where it is held, with its reference time and ten places.
-pub struct Outcome {
-    pub refusal: Refusal,
-    pub errors: Errors,
+// What is accepted of a message: where its code stands, its reference time and its ten places.
+pub struct Accepted {
     pub at: usize,
     pub time: u64,
     pub rates: [Rate; 10],
     pub amounts: [Amount; 10],
+}
+
+// What a reception comes to: why it is refused, else its errors, else what is accepted.
+pub struct Outcome {
+    pub refusal: Refusal,
+    pub errors: Errors,
+    pub accepted: Accepted,
 }
 
 // Whether a reception leaves something to hold.
@@ -50,17 +68,26 @@ pub fn is_held(o: Outcome) -> bool
     !is_refused(refusal) & (errors.n == 0)
 }
 
-// A refused reception: nothing to tell and nothing to hold.
-fn refused_with(refusal: Refusal) -> Outcome
-    ensures { λ r. ⌜ (r .refusal ≡ refusal) × (r .errors .n ≡ 0) × (r .at ≡ 0) ⌝ }
+// Nothing accepted of a message.
+pub fn nothing_accepted() -> Accepted
+    ensures { λ r. ⌜ r .at ≡ 0 ⌝ }
 {
-    Outcome {
-        refusal,
-        errors: none(),
+    Accepted {
         at: 0,
         time: 0,
         rates: [Rate(0); 10],
         amounts: [Amount(0); 10],
+    }
+}
+
+// A refused reception: nothing to tell and nothing to hold.
+fn refused_with(refusal: Refusal) -> Outcome
+    ensures { λ r. ⌜ (r .refusal ≡ refusal) × (r .errors .n ≡ 0) × (r .accepted .at ≡ 0) ⌝ }
+{
+    Outcome {
+        refusal,
+        errors: none(),
+        accepted: nothing_accepted(),
     }
 }
 
@@ -70,24 +97,27 @@ fn judged(terms: Terms, book: Book, m: &[u8], f: Fields, date: u64, time: u64) -
     requires { ⌜ readable layout6G1 (now m) ≡ true ⌝ }
     requires { ⌜ f ≡ fieldsOf (now m) ⌝ }
     requires { ⌜ (validDate date && validTime time) ≡ true ⌝ }
-    ensures { λ r. ⌜ (numberOf (r .refusal) ≡ none) × (r .errors .n ≤ 16) × (r .at < 64) × ((s : State) (space : List ℕ) → Left (tenderOf s terms book) (received (now (m .entry)) date time space) r) ⌝ }
+    ensures { λ r. ⌜ (numberOf (r .refusal) ≡ none) × (r .errors .n ≤ 16) × (r .accepted .at < 64) × ((s : State) (space : List ℕ) → Left (tenderOf s terms book) (received (now (m .entry)) date time space) r) ⌝ }
 {
     let j = judge(m, f, terms, book, date, time);
     let errors = j.errors;
     let places = f.places;
     let rates = places.rates;
     let amounts = places.amounts;
-    Outcome {
-        refusal: Refusal::None,
-        errors,
+    let accepted = Accepted {
         at: j.at,
         time: j.time,
         rates,
         amounts,
+    };
+    Outcome {
+        refusal: Refusal::None,
+        errors,
+        accepted,
     }
 }
 
-// What the reception of a message comes to, with so much room for the reply. The tender comes in its parts, so that whoever changes its book in place makes no copy.
+// What the reception of a message comes to, with so much room for the reply.
 pub fn outcome_of(
     state: State,
     terms: Terms,
@@ -118,15 +148,121 @@ pub fn outcome_of(
     }
 }
 
+// Why closing is refused, or that it is not.
+pub fn close_refusal(state: State, terms: Terms, date: u64, time: u64) -> Refusal
+    ensures { λ r. ⌜ ((book : Book) → numberOf r ≡ closingRefused (viewed (tenderOf state terms book)) date time) ⌝ }
+{
+    let first = not_open(state, date, time);
+    if is_refused(first) {
+        return first;
+    }
+    if moment_later(date, time, terms.execution, terms.cutoff) {
+        return Refusal::None;
+    }
+    Refusal::BeforeCutOff
+}
+
+// Why revoking is refused, or that it is not.
+pub fn revoke_refusal(state: State) -> Refusal
+    ensures { λ r. ⌜ ((terms : Terms) (book : Book) → numberOf r ≡ revokingRefused (viewed (tenderOf state terms book))) ⌝ }
+{
+    match state {
+        State::Open => Refusal::None,
+        State::Closed => Refusal::None,
+        State::Announced => Refusal::Announced,
+        State::Revoked => Refusal::Revoked,
+    }
+}
+
+// Why a tender in a state is not allotted, whatever its bids: conditions 8, 14 and 15.
+fn not_closed(state: State) -> Refusal
+    ensures { λ r. ⌜ ((t : Tender) → t .state ≡ state → numberOf r ≡ notClosed (viewed t)) ⌝ }
+{
+    match state {
+        State::Open => Refusal::Open,
+        State::Closed => Refusal::None,
+        State::Announced => Refusal::Announced,
+        State::Revoked => Refusal::Revoked,
+    }
+}
+
+// Condition 16.
+fn bids_refusal(exceeds: bool) -> Refusal
+    ensures { λ r. ⌜ numberOf r ≡ firstHolding ((16, exceeds) ∷ []) ⌝ }
+{
+    if exceeds {
+        return Refusal::BidsExceed;
+    }
+    Refusal::None
+}
+
+// Why allotting is refused, or that it is not, and the marginal rate.
+pub struct AllotAnswer {
+    pub refusal: Refusal,
+    pub marginal: MarginalRate,
+}
+
+// Allots to the bids of a book, given in book order, and writes their awards; refused, it writes nothing.
+fn allot_bids(
+    state: State,
+    terms: Terms,
+    rates: &[u32],
+    amounts: &[u64],
+    awards: &mut [u64],
+) -> AllotAnswer
+    requires { ⌜ (length (now rates) ≡ length (now amounts)) × (length (now awards) ≡ length (now amounts)) × (length (now amounts) ≤ 640) ⌝ }
+    ensures { λ r. ⌜ ((book : Book) → bidsOf (now (rates .entry)) (now (amounts .entry)) ≡ bidsInBook (entries.viewed book) → AllotsBids (tenderOf state terms book) (now (awards .entry)) r (now (awards .exit))) ⌝ }
+{
+    let first = not_closed(state);
+    if is_refused(first) {
+        return AllotAnswer {
+            refusal: first,
+            marginal: MarginalRate::None,
+        };
+    }
+    let side = terms.side;
+    let limit = terms.limit;
+    let offered = terms.offered;
+    let o = Offer {
+        side,
+        limit,
+        offered,
+    };
+    let allotment = allot(o, rates, amounts, awards);
+    let marginal = allotment.marginal;
+    AllotAnswer {
+        refusal: bids_refusal(allotment.exceeds),
+        marginal,
+    }
+}
+
+// Allots to the bids of a book and writes their rates and their awards in book order; refused, it writes no awards.
+pub fn allot_book(
+    state: State,
+    terms: Terms,
+    book: Book,
+    rates: &mut [u32],
+    awards: &mut [u64],
+) -> AllotAnswer
+    requires { ⌜ (length (now rates) ≡ 10 * upTo64 (book .n)) × (length (now awards) ≡ 10 * upTo64 (book .n)) ⌝ }
+    ensures { λ r. ⌜ RatesIn (entries.viewed book) (now (rates .exit)) × AllotsBids (tenderOf state terms book) (now (awards .entry)) r (now (awards .exit)) ⌝ }
+{
+    let end = rates.len();
+    let mut amounts = no_amounts();
+    in_order(book, rates, &mut amounts[0..end]);
+    allot_bids(state, terms, rates, &amounts[0..end], awards)
+}
+
 // The book after a reception.
 pub fn held_in(b: Book, o: Outcome) -> Book
-    requires { ⌜ o .at < 64 ⌝ }
+    requires { ⌜ o .accepted .at < 64 ⌝ }
     ensures { λ r. ⌜ (entries.viewed r ≡ entriesAfter (entries.viewed b) o) × (isHeld o ≡ false → r ≡ b) ⌝ }
 {
     if is_held(o) {
-        let rates = o.rates;
-        let amounts = o.amounts;
-        return hold(b, o.at, o.time, rates, amounts);
+        let a = o.accepted;
+        let rates = a.rates;
+        let amounts = a.amounts;
+        return hold(b, a.at, a.time, rates, amounts);
     }
     b
 }

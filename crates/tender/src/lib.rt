@@ -1,34 +1,34 @@
 // The calls on a tender: each takes it by value and gives back the next one with the answer.
 pub mod internal;
 
-use allotment::allot;
 use book::Book;
-use book::in_order;
 use book::new_book;
-use calendar::moment_later;
+use book::no_amounts;
+use book::no_rates;
+use book::up_to_64;
 use calendar::valid_date;
 use calendar::valid_time;
 use errors::Errors;
 use errors::none;
+use internal::allot_book;
+use internal::close_refusal;
 use internal::held_in;
 use internal::outcome_of;
+use internal::revoke_refusal;
 use marginal::MarginalRate;
-use offer::Offer;
-use places::Amount;
 use reception::internal::put_reply;
 use terms::OpenAnswer;
 use terms::Terms;
 use terms::is_opened;
 ghost use mathlib.Core.Path.{_≡_};
 ghost use mathlib.Core.List.{[], _∷_};
-ghost use Rattle.envelope.specs.Refusals.{firstHolding, orZero};
-ghost use Rattle.rules.specs.Calls.{clockInvalid, receive, close, revoke};
+ghost use Rattle.envelope.specs.Refusals.{firstHolding, unlessRefused, orZero};
+ghost use Rattle.rules.specs.Calls.{clockInvalid, inState, receive, close, revoke};
 ghost use Rattle.errors.specs.Listed.{listed};
 ghost use Rattle.checks.specs.Columns.{received};
 ghost use Rattle.tender.specs.declared.Tender.{Tender};
 ghost use Rattle.tender.specs.declared.State.the-variants as state;
-ghost use Rattle.tender.specs.declared.Refusal.the-variants as refusal;
-ghost use Rattle.tender.specs.Viewed.{viewed, Given, numberOf, isSome, inStateOf, changedTo, unallottedOf};
+ghost use Rattle.tender.specs.Viewed.{stateOf, viewed, Given, numberOf, isSome, inStateOf};
 ghost use Rattle.tender.specs.Calls.{notOpen, Opens, Receives, Changes, Allots};
 
 pub enum State {
@@ -79,11 +79,11 @@ pub struct Changed {
     pub tender: Tender,
 }
 
-// The awards of all places in book order and the marginal rate: zeros and none where allotting is refused.
+// The awards of all places in book order, in eurocents, and the marginal rate: zeros and none where allotting is refused.
 pub struct Allotted {
     pub refusal: Refusal,
     pub tender: Tender,
-    pub awards: [Amount; 640],
+    pub awards: [u64; 640],
     pub marginal: MarginalRate,
 }
 
@@ -196,60 +196,17 @@ fn unreceived(t: Tender, refusal: Refusal) -> Received
     }
 }
 
-// The tender in another state, not refused.
-fn accepted(t: Tender, state: State) -> Changed
-    ensures { λ r. ⌜ r ≡ changedTo refusal.None (inStateOf state t) ⌝ }
-{
-    Changed {
-        refusal: Refusal::None,
-        tender: in_state(t, state),
-    }
-}
-
-// An allotment refused: awards of zero, no marginal rate and the tender as it was.
-fn unallotted(t: Tender, refusal: Refusal) -> Allotted
-    ensures { λ r. ⌜ r ≡ unallottedOf refusal t ⌝ }
-{
-    Allotted {
-        refusal,
-        tender: t,
-        awards: [Amount(0); 640],
-        marginal: MarginalRate::None,
-    }
-}
-
-// The awards of a closed tender, unless its bids exceed what condition 16 allows.
-fn award(t: Tender) -> Allotted
+// The tender in another state, unless the call is refused.
+fn in_state_unless(t: Tender, refusal: Refusal, state: State) -> Changed
     requires { ⌜ Given t ⌝ }
-    requires { ⌜ t .state ≡ state.Closed ⌝ }
-    ensures { λ r. ⌜ Allots t r ⌝ }
+    ensures { λ r. ⌜ (r .refusal ≡ refusal) × Changes t (numberOf refusal, unlessRefused (numberOf refusal) (viewed t) (inState (stateOf state) (viewed t))) r ⌝ }
 {
-    let terms = t.terms;
-    let book = t.book;
-    let columns = in_order(book);
-    let rates = columns.rates;
-    let amounts = columns.amounts;
-    let side = terms.side;
-    let limit = terms.limit;
-    let offered = terms.offered;
-    let o = Offer {
-        side,
-        limit,
-        offered,
-    };
-    let allotment = allot(o, rates, amounts);
-    if allotment.exceeds {
-        return unallotted(t, Refusal::BidsExceed);
+    if is_refused(refusal) {
+        return Changed { refusal, tender: t };
     }
-    let awards = allotment.awards;
-    let marginal = allotment.marginal;
-    let refusal = Refusal::None;
-    let tender = in_state(t, State::Announced);
-    Allotted {
+    Changed {
         refusal,
-        tender,
-        awards,
-        marginal,
+        tender: in_state(t, state),
     }
 }
 
@@ -309,21 +266,9 @@ impl Tender {
         ensures { λ r. ⌜ Changes self (close (viewed self) date time) r ⌝ }
     {
         let state = self.state;
-        let first = not_open(state, date, time);
-        if is_refused(first) {
-            return Changed {
-                refusal: first,
-                tender: self,
-            };
-        }
         let terms = self.terms;
-        if moment_later(date, time, terms.execution, terms.cutoff) {
-            return accepted(self, State::Closed);
-        }
-        Changed {
-            refusal: Refusal::BeforeCutOff,
-            tender: self,
-        }
+        let refusal = close_refusal(state, terms, date, time);
+        in_state_unless(self, refusal, State::Closed)
     }
 
     // Allots the offer of a closed tender to the bids in its book.
@@ -332,11 +277,20 @@ impl Tender {
         ensures { λ r. ⌜ Allots self r ⌝ }
     {
         let state = self.state;
-        match state {
-            State::Open => unallotted(self, Refusal::Open),
-            State::Closed => award(self),
-            State::Announced => unallotted(self, Refusal::Announced),
-            State::Revoked => unallotted(self, Refusal::Revoked),
+        let terms = self.terms;
+        let book = self.book;
+        let end = 10 * up_to_64(book.n);
+        let mut rates = no_rates();
+        let mut awards = no_amounts();
+        let answer = allot_book(state, terms, book, &mut rates[0..end], &mut awards[0..end]);
+        let refusal = answer.refusal;
+        let marginal = answer.marginal;
+        let tender = in_state_unless(self, refusal, State::Announced).tender;
+        Allotted {
+            refusal,
+            tender,
+            awards,
+            marginal,
         }
     }
 
@@ -346,17 +300,7 @@ impl Tender {
         ensures { λ r. ⌜ Changes self (revoke (viewed self)) r ⌝ }
     {
         let state = self.state;
-        match state {
-            State::Open => accepted(self, State::Revoked),
-            State::Closed => accepted(self, State::Revoked),
-            State::Announced => Changed {
-                refusal: Refusal::Announced,
-                tender: self,
-            },
-            State::Revoked => Changed {
-                refusal: Refusal::Revoked,
-                tender: self,
-            },
-        }
+        let refusal = revoke_refusal(state);
+        in_state_unless(self, refusal, State::Revoked)
     }
 }

@@ -1,218 +1,420 @@
 -- `journal::run` meets its contract. The loop's invariant: the fields up to an index are taken and their lines written. Assumes nothing.
 use borrow.Author.Needs.{needs}
-use mathlib.Core.Path.{_≡_, sym, ap, subst, _∙_}
+use mathlib.Core.Path.{_≡_, refl, sym, ap, subst, _∙_}
 use mathlib.Core.Bool.{Bool, true, false, _&&_, not}
-use Prim.Native.Nat.{ℕ, _+_, _-_, _≤_, _<_}
+use mathlib.Core.Logic.{inl, inr}
+use mathlib.Core.List.{List}
+use Prim.Native.Nat.{ℕ, _+_, _*_, _-_, _≤_, _<_}
+use native.Mathlib.Nat.{sub-zero}
 use native.Mathlib.Omega.{arith}
+use mir.Val.{Val}
 use denote.Ref.{now}
+use denote.Laws.{Is}
 use lib.Dec.{leb}
 use lib.ListN.{length, take, drop, length-drop}
+use lib.Seq.{sets}
 use borrow.Author.Tests.{leb-true, not-true}
+use Rattle.laws.proofs.Arrays.{length-mapped}
 use Rattle.laws.proofs.Tests.{and-left, and-right}
+use Rattle.rules.specs.Receiving.{newBook}
+use Rattle.bids.specs.Columns.{noRate, noAmount}
+use Rattle.book.specs.declared.Book.{Book}
+use Rattle.book.proofs.Book as book
+use Rattle.book.proofs.Storing.{Sized, placed, one-placed}
+use Rattle.tender.specs.declared.internal.Accepted.{Accepted}
+use Rattle.tender.proofs.internal.Accepted as accepted-row
 use Rattle.log.specs.Steps.{holdsField}
 use Rattle.log.proofs.Walks.{held-head}
-use Rattle.journal.specs.Viewed.{Given}
-use Rattle.journal.specs.Runs.{receptionFirst}
-use Rattle.journal.proofs.Running.{ends-at}
-use Rattle.journal.proofs.Logging.{wrote-within, field-taken, receptions-taken, Logging, none-logged, room-left, one-logged}
+use Rattle.steps.specs.declared.Change.{Change}
+use Rattle.steps.specs.declared.Change.the-variants as change
+use Rattle.steps.specs.declared.Taken.{Taken}
+use Rattle.steps.specs.Parts as steps
+use Rattle.steps.specs.Parts.{Parts, parts, after, Possible}
+use Rattle.journal.specs.declared.Journal.{Journal}
+use Rattle.journal.specs.Viewed.{viewed, Given}
+use Rattle.journal.proofs.Running.{leads-to, starts-from, ends-at}
+use Rattle.journal.proofs.Logging.{journalOf, wrote-within, field-taken, from-parts, Arrives, arrives-at, unchanged, ended, admitted, opened, in-state, accepted, Logging, none-logged, room-left, one-logged}
 use Rattle.journal.proofs.run.Statement.{statement}
 use Rattle.journal.proofs.run.Tie as tie
 
+-- the places of a message up to the i-th are stored
+abbrev Inv-loop2 : tie.InvT-loop2
+Inv-loop2 input space ended opened codes n state terms book₀ at length₁ room end taken accepted k i₀ book i =
+    (i ≤ 10) × (k < 64) × (length (accepted .rates) ≡ 10) × (length (accepted .amounts) ≡ 10) × (length (book₀ .rates) ≡ 640) × (length (book₀ .amounts) ≡ 640)
+    × (book ≡ placed book₀ (sets (book₀ .rates) (10 * k) (take i (accepted .rates))) (sets (book₀ .amounts) (10 * k) (take i (accepted .amounts))))
+
+abbrev μ-loop2 : tie.MeasureT-loop2
+μ-loop2 input space ended opened codes n state terms book₀ at length₁ room end taken accepted k i₀ book i = 10 - i
+
 abbrev Inv-loop : tie.InvT-loop
-Inv-loop input space₀ now₀ at₀ length₀ room space j at n = Logging input space₀ now₀ space j at n
+Inv-loop input space₀ ended₀ opened₀ codes₀ n₀ state₀ terms₀ book₀ at₀ length₀ room space ended opened codes n state terms book at length =
+    Logging input space₀ (journalOf ended₀ (parts opened₀ codes₀ n₀ state₀ terms₀ book₀)) space (journalOf ended (parts opened codes n state terms book)) at length
 
 abbrev μ-loop : tie.MeasureT-loop
-μ-loop input space₀ now₀ at₀ length₀ room space j at n = length input - at
+μ-loop input space₀ ended₀ opened₀ codes₀ n₀ state₀ terms₀ book₀ at₀ length₀ room space ended opened codes n state terms book at m = length input - at
+
+state-requires : tie.Need-state-requires Inv-loop2 μ-loop2 Inv-loop μ-loop
+state-requires c κs = search needs
+
+terms-requires : tie.Need-terms-requires Inv-loop2 μ-loop2 Inv-loop μ-loop
+terms-requires c κs = search needs
+
+book-requires : tie.Need-book-requires Inv-loop2 μ-loop2 Inv-loop μ-loop
+book-requires c κs = search needs
+
+-- the lengths that arrays have by their types
+sized : (b : Book) (vs : List Val) → Is book.the-row b vs → Sized b
+sized b vs p = record { held-length = search needs; has-length = search (needs, length-mapped); rates-length = search (needs, length-mapped); amounts-length = search (needs, length-mapped) }
+
+codes-full : (c : tie.Start Inv-loop2 μ-loop2 Inv-loop μ-loop) → length (c .args .j .codes) ≡ 65
+codes-full c = search needs
+
+-- the journal is that of its parts
+whole-journal : (c : tie.After-book Inv-loop2 μ-loop2 Inv-loop μ-loop)
+    → (let a = c .before .before .before .before .before .before .before .args in
+    journalOf (a .j .ended) (parts (a .j .opened) (a .j .codes) (a .j .n) (c .before .before .state .result) (c .before .terms .result) (c .book .result)) ≡ a .j)
+whole-journal c =
+    let a = c .before .before .before .before .before .before .before .args in
+    λ i. record { ended = a .j .ended; opened = a .j .opened; codes = a .j .codes; n = a .j .n; tender = record { state = c .before .before .state .ensures i; terms = c .before .terms .ensures i; book = c .book .ensures i } }
+
+loop-holds : tie.Need-loop-holds Inv-loop2 μ-loop2 Inv-loop μ-loop
+loop-holds c =
+    let start = c .before .before .before .before .before .before .before in
+    none-logged (now (start .args .input)) (now (start .args .space)) _ (subst Given (sym (whole-journal c)) (start .pre)) (codes-full start) (sized (c .book .result) _ (c .book .ok))
+
+holds-field-requires : tie.Need-holds-field-requires Inv-loop2 μ-loop2 Inv-loop μ-loop
+holds-field-requires c κs = c .loop .inv .within
+
+sub-if1 : tie.Need-sub-if1 Inv-loop2 μ-loop2 Inv-loop μ-loop
+sub-if1 c = c .before .loop .inv .room
 
 -- a turn finds a whole field, a log that has not ended, and room for any lines
-going : (c : tie.Then1 Inv-loop μ-loop)
-    → (let l = c .before .before .before .loop in (c .before .before .holds-field .result && not (l .now .ended) && leb 23040 (length (now (c .before .before .before .before .before .before .args .space)) - l .length)) ≡ true)
+going : (c : tie.Then1 Inv-loop2 μ-loop2 Inv-loop μ-loop)
+    → (let l = c .before .before .loop in (c .before .holds-field .result && not (l .ended) && leb 23040 (length (now (c .before .before .before .before .before .before .before .before .before .before .args .space)) - l .length)) ≡ true)
 going c = c .if1 .taken
 
-whole : (c : tie.Then1 Inv-loop μ-loop) → holdsField (drop (c .before .before .before .loop .at) (now (c .before .before .before .before .before .before .args .input))) ≡ true
-whole c = sym (c .before .before .holds-field .ensures) ∙ and-left (c .before .before .holds-field .result) (not (c .before .before .before .loop .now .ended)) (and-left (c .before .before .holds-field .result && not (c .before .before .before .loop .now .ended)) _ (going c))
+field-there : (c : tie.Then1 Inv-loop2 μ-loop2 Inv-loop μ-loop) → holdsField (drop (c .before .before .loop .at) (now (c .before .before .before .before .before .before .before .before .before .before .args .input))) ≡ true
+field-there c = sym (c .before .holds-field .ensures) ∙ and-left (c .before .holds-field .result) (not (c .before .before .loop .ended)) (and-left (c .before .holds-field .result && not (c .before .before .loop .ended)) _ (going c))
 
-unended : (c : tie.Then1 Inv-loop μ-loop) → c .before .before .before .loop .now .ended ≡ false
-unended c = not-true (c .before .before .before .loop .now .ended) (and-right (c .before .before .holds-field .result) (not (c .before .before .before .loop .now .ended)) (and-left (c .before .before .holds-field .result && not (c .before .before .before .loop .now .ended)) _ (going c)))
+unended : (c : tie.Then1 Inv-loop2 μ-loop2 Inv-loop μ-loop) → c .before .before .loop .ended ≡ false
+unended c = not-true (c .before .before .loop .ended) (and-right (c .before .holds-field .result) (not (c .before .before .loop .ended)) (and-left (c .before .holds-field .result && not (c .before .before .loop .ended)) _ (going c)))
 
-roomy : (c : tie.Then1 Inv-loop μ-loop) → 23040 ≤ length (now (c .before .before .before .before .before .before .args .space)) - c .before .before .before .loop .length
-roomy c = leb-true 23040 (length (now (c .before .before .before .before .before .before .args .space)) - c .before .before .before .loop .length) (and-right (c .before .before .holds-field .result && not (c .before .before .before .loop .now .ended)) _ (going c))
-
-part-roomy : (c : tie.Then1 Inv-loop μ-loop) → (let l = c .before .before .before .loop in 23040 ≤ length (take (length (now (c .before .before .before .before .before .before .args .space)) - l .length) (drop (l .length) (l .space))))
-part-roomy c = subst (λ (k : ℕ). 23040 ≤ k) (sym (room-left (c .before .before .before .loop .inv))) (roomy c)
+roomy : (c : tie.Then1 Inv-loop2 μ-loop2 Inv-loop μ-loop) → 23040 ≤ length (now (c .before .before .before .before .before .before .before .before .before .before .args .space)) - c .before .before .loop .length
+roomy c = leb-true 23040 (length (now (c .before .before .before .before .before .before .before .before .before .before .args .space)) - c .before .before .loop .length) (and-right (c .before .holds-field .result && not (c .before .before .loop .ended)) _ (going c))
 
 -- the field's head and its end
-headed : (c : tie.Then1 Inv-loop μ-loop) → c .before .before .before .loop .at + 3 ≤ length (now (c .before .before .before .before .before .before .args .input))
+headed : (c : tie.Then1 Inv-loop2 μ-loop2 Inv-loop μ-loop) → c .before .before .loop .at + 3 ≤ length (now (c .before .before .before .before .before .before .before .before .before .before .args .input))
 headed c =
-    let l = c .before .before .before .loop in
-    let x = now (c .before .before .before .before .before .before .args .input) in
-    let h = held-head (drop (l .at) x) (whole c) in
+    let l = c .before .before .loop in
+    let x = now (c .before .before .before .before .before .before .before .before .before .before .args .input) in
+    let h = held-head (drop (l .at) x) (field-there c) in
     let d = length-drop (l .at) x in
     omega (arith, h, d)
 
-ends : (c : tie.After-length-at Inv-loop μ-loop) → c .before .before .before .before .before .before .before .loop .at + 3 + c .length-at .result ≤ length (now (c .before .before .before .before .before .before .before .before .before .before .args .input))
-ends c = ends-at (now (c .before .before .before .before .before .before .before .before .before .before .args .input)) (c .before .before .before .before .before .before .before .loop .at) (c .length-at .result) (c .length-at .ensures .0) (whole (c .before .before .before .before))
-
--- receptions: the tender is there, one starts here, and at least it is taken
-opened : (c : tie.Then2 Inv-loop μ-loop) → c .before .before .before .before .before .before .loop .now .opened ≡ true
-opened c = and-left (c .before .before .before .before .before .before .loop .now .opened) (c .before .before .is-reception .result) (c .if2 .taken)
-
-first : (c : tie.Then2 Inv-loop μ-loop) → receptionFirst (drop (c .before .before .before .before .before .before .loop .at) (now (c .before .before .before .before .before .before .before .before .before .args .input))) ≡ true
-first c = sym (c .before .before .is-reception .ensures) ∙ and-right (c .before .before .before .before .before .before .loop .now .opened) (c .before .before .is-reception .result) (c .if2 .taken)
-
-onward : (c : tie.After-receptions Inv-loop μ-loop) → c .before .before .before .before .before .before .before .before .before .loop .at < c .receptions .result .at
-onward c = c .receptions .ensures .2 (first (c .before .before .before)) (let r = part-roomy (c .before .before .before .before .before .before) in omega (arith, r))
+ends : (c : tie.After-length-at Inv-loop2 μ-loop2 Inv-loop μ-loop) → c .before .before .before .loop .at + 3 + c .length-at .result ≤ length (now (c .before .before .before .before .before .before .before .before .before .before .before .args .input))
+ends c = ends-at (now (c .before .before .before .before .before .before .before .before .before .before .before .args .input)) (c .before .before .before .loop .at) (c .length-at .result) (c .length-at .ensures .0) (field-there (c .before))
 
 -- no space is longer than an index
-space-short : (c : tie.After-slice-known Inv-loop μ-loop) → length (now (c .before .before .args .space)) < 18446744073709551616
+space-short : (c : tie.After-slice-known Inv-loop2 μ-loop2 Inv-loop μ-loop) → length (now (c .before .before .args .space)) < 18446744073709551616
 space-short c = omega arith
 
-loop-holds : tie.Need-loop-holds Inv-loop μ-loop
-loop-holds c = none-logged (now (c .before .before .args .input)) (now (c .before .before .args .space)) (c .before .before .args .j) (c .before .before .pre)
+add-end : tie.Need-add-end Inv-loop2 μ-loop2 Inv-loop μ-loop
+add-end c = let h = headed (c) in omega (arith, h)
 
-holds-field-requires : tie.Need-holds-field-requires Inv-loop μ-loop
-holds-field-requires c κs = c .loop .inv .within
+length-at-requires : tie.Need-length-at-requires Inv-loop2 μ-loop2 Inv-loop μ-loop
+length-at-requires c κs = headed (c)
 
-sub-if1 : tie.Need-sub-if1 Inv-loop μ-loop
-sub-if1 c = c .before .before .loop .inv .room
-
-is-reception-requires : tie.Need-is-reception-requires Inv-loop μ-loop
-is-reception-requires c κs = c .before .before .before .loop .inv .within
-
-sub-receptions : tie.Need-sub-receptions Inv-loop μ-loop
-sub-receptions c = c .before .before .before .before .before .before .before .loop .inv .room
-
-part-receptions-start : tie.Need-part-receptions-start Inv-loop μ-loop
-part-receptions-start c = let r = c .before .before .before .before .before .before .before .loop .inv .room in omega (arith, r)
-
-part-receptions-end : tie.Need-part-receptions-end Inv-loop μ-loop
-part-receptions-end c = let r = c .before .before .before .before .before .before .before .loop .inv .same in omega (arith, r)
-
-receptions-requires : tie.Need-receptions-requires Inv-loop μ-loop
-receptions-requires c κs = (c .before .before .before .before .before .before .before .before .loop .inv .given .tender, c .before .before .before .before .before .before .before .before .loop .inv .within)
-
-with-tender-requires : tie.Need-with-tender-requires Inv-loop μ-loop
-with-tender-requires c κs = search needs
-
-add-length : tie.Need-add-length Inv-loop μ-loop
-add-length c =
-    let w = c .before .before .before .before .before .receptions .ensures .4 in
-    let r = room-left (c .before .before .before .before .before .before .before .before .before .before .before .before .before .before .loop .inv) in
-    let o = c .before .before .before .before .before .before .before .before .before .before .before .before .before .before .loop .inv .room in
-    let f = space-short (c .before .before .before .before .before .before .before .before .before .before .before .before .before .before .before) in
-    omega (arith, w, r, o, f)
-
-loop-less : tie.Need-loop-less Inv-loop μ-loop
-loop-less c =
-    let o = onward (c .before .before .before .before .before) in
-    let w = c .before .before .before .before .before .receptions .ensures .3 in
-    omega (arith, o, w)
-
-loop-again : tie.Need-loop-again Inv-loop μ-loop
-loop-again c =
-    let taken = c .before .before .before .before .before in
-    let l = taken .before .before .before .before .before .before .before .before .before .loop in
-    let r = taken .receptions in
-    let k = c .before .with-tender in
-    one-logged (l .inv) (k .result) (r .result .at) (r .result .length) (r .last .1 .1 .1 .0)
-    (receptions-taken (l .now) (k .result) (r .result .tender) _ _ _ _ _ (unended (taken .before .before .before .before .before .before)) (opened (taken .before .before .before)) (k .ensures) (r .ensures .0))
-    (r .kept .1 .1 .1 .0) (r .ensures .3)
-    (subst Given (sym (k .ensures)) (record { few = l .inv .given .few; tender = r .ensures .5 }))
-
-add-end : tie.Need-add-end Inv-loop μ-loop
-add-end c = let h = headed (c .before .before .before) in omega (arith, h)
-
-length-at-requires : tie.Need-length-at-requires Inv-loop μ-loop
-length-at-requires c κs = headed (c .before .before .before)
-
-add-end-2 : tie.Need-add-end-2 Inv-loop μ-loop
+add-end-2 : tie.Need-add-end-2 Inv-loop2 μ-loop2 Inv-loop μ-loop
 add-end-2 c = let h = ends c in omega (arith, h)
 
-shared-slice-read-step : tie.Need-shared-slice-read-step Inv-loop μ-loop
+shared-slice-read-step : tie.Need-shared-slice-read-step Inv-loop2 μ-loop2 Inv-loop μ-loop
 shared-slice-read-step c = let h = ends (c .before) in omega (arith, h)
 
-add-step : tie.Need-add-step Inv-loop μ-loop
+add-step : tie.Need-add-step Inv-loop2 μ-loop2 Inv-loop μ-loop
 add-step c = let h = ends (c .before) in omega (arith, h)
 
-sub-step : tie.Need-sub-step Inv-loop μ-loop
+sub-step : tie.Need-sub-step Inv-loop2 μ-loop2 Inv-loop μ-loop
 sub-step c = let h = ends (c .before) in omega (arith, h)
 
-part-step-start : tie.Need-part-step-start Inv-loop μ-loop
+part-step-start : tie.Need-part-step-start Inv-loop2 μ-loop2 Inv-loop μ-loop
 part-step-start c = let h = ends (c .before) in omega (arith, h)
 
-part-step-end : tie.Need-part-step-end Inv-loop μ-loop
+part-step-end : tie.Need-part-step-end Inv-loop2 μ-loop2 Inv-loop μ-loop
 part-step-end c = let h = ends (c .before) in omega (arith, h)
 
-sub-step-2 : tie.Need-sub-step-2 Inv-loop μ-loop
-sub-step-2 c = c .before .before .before .before .before .before .before .before .before .loop .inv .room
+sub-step-2 : tie.Need-sub-step-2 Inv-loop2 μ-loop2 Inv-loop μ-loop
+sub-step-2 c = c .before .before .before .before .before .loop .inv .room
 
-part-step-start-2 : tie.Need-part-step-start-2 Inv-loop μ-loop
-part-step-start-2 c = let r = c .before .before .before .before .before .before .before .before .before .loop .inv .room in omega (arith, r)
+part-step-start-2 : tie.Need-part-step-start-2 Inv-loop2 μ-loop2 Inv-loop μ-loop
+part-step-start-2 c = let r = c .before .before .before .before .before .loop .inv .room in omega (arith, r)
 
-part-step-end-2 : tie.Need-part-step-end-2 Inv-loop μ-loop
-part-step-end-2 c = let r = c .before .before .before .before .before .before .before .before .before .loop .inv .same in omega (arith, r)
+part-step-end-2 : tie.Need-part-step-end-2 Inv-loop2 μ-loop2 Inv-loop μ-loop
+part-step-end-2 c = let r = c .before .before .before .before .before .loop .inv .same in omega (arith, r)
 
-step-requires : tie.Need-step-requires Inv-loop μ-loop
-step-requires c κs = c .before .before .before .before .before .before .before .before .before .before .loop .inv .given
+step-requires : tie.Need-step-requires Inv-loop2 μ-loop2 Inv-loop μ-loop
+step-requires c κs =
+    let l = c .before .before .before .before .before .before .loop in
+    let left = room-left (l .inv) in
+    let r = roomy (c .before .before .before .before) in
+    (record { few = l .inv .given .few; tender = l .inv .given .tender }, omega (arith, left, r))
 
-add-length-2 : tie.Need-add-length-2 Inv-loop μ-loop
-add-length-2 c =
+enum-told : tie.Need-enum-told Inv-loop2 μ-loop2 Inv-loop μ-loop
+enum-told c = search needs
+
+enum-told-2 : tie.Need-enum-told-2 Inv-loop2 μ-loop2 Inv-loop μ-loop
+enum-told-2 c = search needs
+
+enum-known-change : tie.Need-enum-known-change Inv-loop2 μ-loop2 Inv-loop μ-loop
+enum-known-change c = search needs
+
+input-short : (c : tie.After-shared-slice-known Inv-loop2 μ-loop2 Inv-loop μ-loop) → length (now (c .before .args .input)) < 18446744073709551616
+input-short c = omega arith
+
+-- the parts of the journal and the field that a turn takes
+abbrev partsIn : tie.At-loop Inv-loop2 μ-loop2 Inv-loop μ-loop → Parts
+partsIn c = let l = c .loop in parts (l .opened) (l .codes) (l .n) (l .state) (l .terms) (l .book)
+
+abbrev fieldIn : tie.After-length-at Inv-loop2 μ-loop2 Inv-loop μ-loop → List ℕ
+fieldIn c =
+    let l = c .before .before .before .loop in
+    let x = now (c .before .before .before .before .before .before .before .before .before .before .before .args .input) in
+    take (l .at + 3 + c .length-at .result - (l .at + 3)) (drop (l .at + 3) x)
+
+can : (c : tie.After-step Inv-loop2 μ-loop2 Inv-loop μ-loop) → Possible (partsIn (c .before .before .before .before .before .before .before)) (fieldIn (c .before .before .before .before)) (c .step .result .accepted) (c .step .result .change)
+can c = c .step .ensures .can
+
+add-codes-in : tie.Need-add-codes-in Inv-loop2 μ-loop2 Inv-loop μ-loop
+add-codes-in c = let h = ends (c .before .before .before .before .before .before .before .before .before) in let k = input-short (c .before .before .before .before .before .before .before .before .before .before .before .before .before .before .before .before .before .before .before) in omega (arith, h, k)
+
+sub-codes-in : tie.Need-sub-codes-in Inv-loop2 μ-loop2 Inv-loop μ-loop
+sub-codes-in c = let h = ends (c .before .before .before .before .before .before .before .before .before) in omega (arith, h)
+
+part-codes-in-start : tie.Need-part-codes-in-start Inv-loop2 μ-loop2 Inv-loop μ-loop
+part-codes-in-start c = let h = ends (c .before .before .before .before .before .before .before .before .before) in omega (arith, h)
+
+part-codes-in-end : tie.Need-part-codes-in-end Inv-loop2 μ-loop2 Inv-loop μ-loop
+part-codes-in-end c = let h = ends (c .before .before .before .before .before .before .before .before .before) in omega (arith, h)
+
+codes-in-requires : tie.Need-codes-in-requires Inv-loop2 μ-loop2 Inv-loop μ-loop
+codes-in-requires c κs =
+    let st = c .before .before .before .before .before .before in
+    let q = subst (Possible (partsIn (c .before .before .before .before .before .before .before .before .before .before .before .before .before)) (fieldIn (c .before .before .before .before .before .before .before .before .before .before)) (st .step .result .accepted)) (c .before .before .change .given .1) (can st) in
+    ((q .0, q .1), q .2)
+
+enum-told-3 : tie.Need-enum-told-3 Inv-loop2 μ-loop2 Inv-loop μ-loop
+enum-told-3 c = search needs
+
+sub-new-book : tie.Need-sub-new-book Inv-loop2 μ-loop2 Inv-loop μ-loop
+sub-new-book c = search needs
+
+part-new-book-start : tie.Need-part-new-book-start Inv-loop2 μ-loop2 Inv-loop μ-loop
+part-new-book-start c = search needs
+
+part-new-book-end : tie.Need-part-new-book-end Inv-loop2 μ-loop2 Inv-loop μ-loop
+part-new-book-end c =
+    let l = c .before .before .before .before .before .before .before .before .before .before .before .before .before .loop in
+    let f = l .inv .given .few in
+    let n = l .inv .codes-length in
+    omega (arith, f, n)
+
+new-book-requires : tie.Need-new-book-requires Inv-loop2 μ-loop2 Inv-loop μ-loop
+new-book-requires c κs = search needs
+
+enum-known-change-2 : tie.Need-enum-known-change-2 Inv-loop2 μ-loop2 Inv-loop μ-loop
+enum-known-change-2 c = search needs
+
+enum-told-4 : tie.Need-enum-told-4 Inv-loop2 μ-loop2 Inv-loop μ-loop
+enum-told-4 c = search needs
+
+-- an accepted message has a place in the book, and ten places
+stands : (c : tie.After-enum-told4 Inv-loop2 μ-loop2 Inv-loop μ-loop) → Possible (partsIn (c .before .before .before .before .before .before .before .before .before .before .before)) (fieldIn (c .before .before .before .before .before .before .before .before)) (c .before .before .before .before .step .result .accepted) change.Accepted
+stands c = subst (Possible (partsIn (c .before .before .before .before .before .before .before .before .before .before .before)) (fieldIn (c .before .before .before .before .before .before .before .before)) (c .before .before .before .before .step .result .accepted)) (c .enum-told4 .given .1) (can (c .before .before .before .before))
+
+ten-places : (a : Accepted) (vs : List Val) → Is accepted-row.the-row a vs → (length (a .rates) ≡ 10) × (length (a .amounts) ≡ 10)
+ten-places a vs p = (search (needs, length-mapped), search (needs, length-mapped))
+
+taken-places : (c : tie.After-step Inv-loop2 μ-loop2 Inv-loop μ-loop) → (length (c .step .result .accepted .rates) ≡ 10) × (length (c .step .result .accepted .amounts) ≡ 10)
+taken-places c = ten-places (c .step .result .accepted) _ (c .step .ok .1 .1 .1 .1 .1 .0)
+
+mul-book : tie.Need-mul-book Inv-loop2 μ-loop2 Inv-loop μ-loop
+mul-book c =
+    let h = stands (c .before) .1 in
+    omega (arith, h)
+
+element-write-book : tie.Need-element-write-book Inv-loop2 μ-loop2 Inv-loop μ-loop
+element-write-book c =
+    let h = stands (c .before) .1 in
+    omega (arith, h)
+
+element-write-book-2 : tie.Need-element-write-book-2 Inv-loop2 μ-loop2 Inv-loop μ-loop
+element-write-book-2 c =
+    let h = stands (c .before) .1 in
+    omega (arith, h)
+
+loop2-holds : tie.Need-loop2-holds Inv-loop2 μ-loop2 Inv-loop μ-loop
+loop2-holds c =
+    let t = taken-places (c .before .before .before .before .before) in
+    let z = c .before .before .before .before .before .before .before .before .before .before .before .before .loop .inv .sized in
+    (omega arith, stands (c .before) .1, t .0, t .1, z .rates-length, z .amounts-length, refl)
+
+mul-book-2 : tie.Need-mul-book-2 Inv-loop2 μ-loop2 Inv-loop μ-loop
+mul-book-2 c = let q = c .before .loop2 .inv in omega (arith, q .0, q .1)
+
+element-copy-out-book : tie.Need-element-copy-out-book Inv-loop2 μ-loop2 Inv-loop μ-loop
+element-copy-out-book c = let q = c .before .loop2 .inv in omega (arith, q .0, q .1)
+
+mul-t66 : tie.Need-mul-t66 Inv-loop2 μ-loop2 Inv-loop μ-loop
+mul-t66 c = let q = c .before .before .loop2 .inv in omega (arith, q .0, q .1)
+
+add-t67 : tie.Need-add-t67 Inv-loop2 μ-loop2 Inv-loop μ-loop
+add-t67 c = let q = c .before .before .loop2 .inv in omega (arith, q .0, q .1)
+
+mul-t68 : tie.Need-mul-t68 Inv-loop2 μ-loop2 Inv-loop μ-loop
+mul-t68 c = let q = c .before .before .loop2 .inv in omega (arith, q .0, q .1)
+
+element-set-from-book : tie.Need-element-set-from-book Inv-loop2 μ-loop2 Inv-loop μ-loop
+element-set-from-book c = let q = c .before .before .loop2 .inv in omega (arith, q .0, q .1)
+
+mul-book-3 : tie.Need-mul-book-3 Inv-loop2 μ-loop2 Inv-loop μ-loop
+mul-book-3 c = let q = c .before .before .loop2 .inv in omega (arith, q .0, q .1)
+
+element-copy-out-book-2 : tie.Need-element-copy-out-book-2 Inv-loop2 μ-loop2 Inv-loop μ-loop
+element-copy-out-book-2 c = let q = c .before .before .loop2 .inv in omega (arith, q .0, q .1)
+
+mul-t68-2 : tie.Need-mul-t68-2 Inv-loop2 μ-loop2 Inv-loop μ-loop
+mul-t68-2 c = let q = c .before .before .before .loop2 .inv in omega (arith, q .0, q .1)
+
+add-t67-2 : tie.Need-add-t67-2 Inv-loop2 μ-loop2 Inv-loop μ-loop
+add-t67-2 c = let q = c .before .before .before .loop2 .inv in omega (arith, q .0, q .1)
+
+mul-t66-2 : tie.Need-mul-t66-2 Inv-loop2 μ-loop2 Inv-loop μ-loop
+mul-t66-2 c = let q = c .before .before .before .loop2 .inv in omega (arith, q .0, q .1)
+
+element-set-from-book-2 : tie.Need-element-set-from-book-2 Inv-loop2 μ-loop2 Inv-loop μ-loop
+element-set-from-book-2 c = let q = c .before .before .before .loop2 .inv in omega (arith, q .0, q .1)
+
+add-i : tie.Need-add-i Inv-loop2 μ-loop2 Inv-loop μ-loop
+add-i c = let q = c .before .before .before .loop2 .inv in omega (arith, q .0, q .1)
+
+loop2-less : tie.Need-loop2-less Inv-loop2 μ-loop2 Inv-loop μ-loop
+loop2-less c = let q = c .before .before .before .loop2 .inv in omega (arith, q .0, q .1)
+
+loop2-again : tie.Need-loop2-again Inv-loop2 μ-loop2 Inv-loop μ-loop
+loop2-again c =
+    let l = c .before .before .before .loop2 in
+    let q = l .inv in
+    (omega (arith, q .0), q .1, q .2, q .3, q .4, q .5, one-placed _ (l .book) _ (l .i) _ _ noRate noAmount (omega (arith, q .0, q .2)) (omega (arith, q .0, q .3)) (q .6))
+
+-- the journal after a turn is that of the log after the field's change
+module _ (c : tie.At-match-came Inv-loop2 μ-loop2 Inv-loop μ-loop) where
+  abbrev before : Parts
+  before = partsIn (c .before .before .before .before .before .before .before .before .before .before)
+
+  abbrev taken : Taken
+  taken = c .before .before .before .step .result
+
+  abbrev journal : Journal
+  journal = journalOf (c .match .ended) (parts (c .match .opened) (c .match .codes) (c .match .n) (c .match .state) (c .match .terms) (c .match .book))
+
+  abbrev Arrived : Change → Type 0
+  Arrived x = Arrives (after before (fieldIn (c .before .before .before .before .before .before .before)) (taken .terms) (taken .accepted) x) journal
+
+  -- what a turn relies on
+  given : steps.Given before
+  given = let i = c .before .before .before .before .before .before .before .before .before .before .loop .inv in record { few = i .given .few; tender = i .given .tender }
+
+  full : length (before .codes) ≡ 65
+  full = c .before .before .before .before .before .before .before .before .before .before .loop .inv .codes-length
+
+  book-sized : Sized (before .book)
+  book-sized = c .before .before .before .before .before .before .before .before .before .before .loop .inv .sized
+
+  unended-then : c .before .before .before .before .before .before .before .before .before .before .loop .ended ≡ false
+  unended-then = unended (c .before .before .before .before .before .before .before .before)
+
+  -- by the change that was found
+  by : (x : Change) → taken .change ≡ x → (Possible before (fieldIn (c .before .before .before .before .before .before .before)) (taken .accepted) x → Arrived x) → Arrived (taken .change)
+  by x e h = subst Arrived (sym e) (h (subst (Possible before (fieldIn (c .before .before .before .before .before .before .before)) (taken .accepted)) e (can (c .before .before .before))))
+
+  arrived : Arrived (taken .change)
+  arrived = elim (c .match .came) [
+    | inl x ↦ by change.None (x .1 .given .1) (λ q. arrives-at (λ i. journalOf ((x .2 ∙ unended-then) i) (parts (x .3 i) (x .4 i) (x .5 i) (x .6 i) (x .7 i) (x .8 i))) (unchanged before given full book-sized))
+    | inr (inl x) ↦ by change.Ended (x .1 .given .1) (λ q. arrives-at (λ i. journalOf (x .2 i) (parts (x .3 i) (x .4 i) (x .5 i) (x .6 i) (x .7 i) (x .8 i))) (ended before given full book-sized))
+    | inr (inr (inl x)) ↦
+        by (change.Admitted (x .1 .given .0 .0)) (x .1 .given .1)
+        (λ q. arrives-at (λ i. journalOf ((x .5 ∙ unended-then) i) (parts (x .6 i) (x .7 i) (x .8 i) (x .9 i) (x .10 i) (x .11 i))) (admitted before given full book-sized (fieldIn (c .before .before .before .before .before .before .before)) (x .4 .result) (x .1 .given .0 .0) (x .4 .ensures .0) (q .0) (x .4 .ensures .1)))
+    | inr (inr (inr (inl x))) ↦
+        by change.Opened (x .1 .given .1)
+        (λ q. arrives-at (λ i. journalOf ((x .6 ∙ unended-then) i) (parts (x .7 i) (x .8 i) (x .9 i) (x .10 i) (x .11 i) (x .12 i)))
+        (opened before given full book-sized (taken .terms) (x .5 .result) (q .0) (q .1) (x .5 .ensures ∙ ap (λ (k : ℕ). newBook (take 64 (take k (before .codes)))) (sub-zero (before .n))) (sized (x .5 .result) _ (x .5 .ok))))
+    | inr (inr (inr (inr (inl x)))) ↦ by (change.InState (x .1 .given .0 .0)) (x .1 .given .1) (λ q. arrives-at (λ i. journalOf ((x .3 ∙ unended-then) i) (parts (x .4 i) (x .5 i) (x .6 i) (x .7 i) (x .8 i) (x .9 i))) (in-state before given full book-sized (x .1 .given .0 .0) q))
+    | inr (inr (inr (inr (inr x)))) ↦
+        let t = taken-places (c .before .before .before) in
+        by change.Accepted (x .1 .given .1)
+        (λ q. arrives-at (λ i. journalOf ((x .5 ∙ unended-then) i) (parts (x .6 i) (x .7 i) (x .8 i) (x .9 i) (x .10 i) ((x .11 ∙ x .3 .inv .6) i)))
+        (accepted before given full book-sized (taken .accepted) (q .0) (q .1) (t .0) (t .1) (x .3 .i) (omega (arith, x .3 .inv .0, x .4 .left))))
+  ]
+
+add-length : tie.Need-add-length Inv-loop2 μ-loop2 Inv-loop μ-loop
+add-length c =
     let w = c .before .before .before .before .step in
-    let l = c .before .before .before .before .before .before .before .before .before .before .before .before .before .before .before .loop in
-    let h = wrote-within _ _ _ (w .result .length) (w .ensures .1 .lines) (w .kept .1 .1 .1 .0) in
+    let l = c .before .before .before .before .before .before .before .before .before .before .before .loop in
+    let h = wrote-within _ _ _ (w .result .length) (w .ensures .lines) (w .kept .1 .1 .1 .1 .1 .1 .1 .1 .0) in
     let r = room-left (l .inv) in
     let o = l .inv .room in
-    let f = space-short (c .before .before .before .before .before .before .before .before .before .before .before .before .before .before .before .before) in
-    omega (arith, h, r, o, f)
+    let k = space-short (c .before .before .before .before .before .before .before .before .before .before .before .before .before .before .before .before .before) in
+    omega (arith, h, r, o, k)
 
-loop-less-2 : tie.Need-loop-less-2 Inv-loop μ-loop
-loop-less-2 c = let h = ends (c .before .before .before .before .before .before .before .before) in omega (arith, h)
+loop-less : tie.Need-loop-less Inv-loop2 μ-loop2 Inv-loop μ-loop
+loop-less c = let h = ends (c .before .before .before .before .before .before .before .before) in omega (arith, h)
 
-loop-again-2 : tie.Need-loop-again-2 Inv-loop μ-loop
-loop-again-2 c =
-    let stepped = c .before .before .before .before in
-    let looked = stepped .before .before .before .before in
-    let l = looked .before .before .before .before .before .before .before .loop in
-    let a = looked .before .before .before .before .before .before .before .before .before .before .args in
-    let w = stepped .step in
-    let n = looked .length-at in
-    let x = now (a .input) in
-    one-logged (l .inv) (w .result .journal) (l .at + 3 + n .result) (w .result .length) (w .last .1 .1 .1 .0)
-    (field-taken x (l .at) (n .result) (n .ensures .0) (l .now) _ _ (w .result) (whole (looked .before .before .before .before)) (unended (looked .before .before .before .before)) (part-roomy (looked .before .before .before .before)) (w .ensures .1))
-    (w .kept .1 .1 .1 .0) (ends looked) (w .ensures .1 .given)
+loop-again : tie.Need-loop-again Inv-loop2 μ-loop2 Inv-loop μ-loop
+loop-again c =
+    let l = c .before .before .before .before .before .before .before .before .before .before .before .loop in
+    let n = c .before .before .before .before .before .before .before .before .length-at in
+    let w = c .before .before .before .before .step in
+    let x = now (c .before .before .before .before .before .before .before .before .before .before .before .before .before .before .before .before .before .before .before .args .input) in
+    let p = partsIn (c .before .before .before .before .before .before .before .before .before .before .before) in
+    let then = c .before .before .before .before .before .before .before .before .before in
+    one-logged (l .inv) _ (l .at + 3 + n .result) (w .result .length) (w .last .1 .1 .1 .1 .1 .1 .1 .1 .0)
+    (from-parts (l .ended) p (unended then) (field-taken x (l .at) (n .result) (n .ensures .0) p _ _ (w .result) (field-there then) (w .ensures)))
+    (w .kept .1 .1 .1 .1 .1 .1 .1 .1 .0) (ends (c .before .before .before .before .before .before .before .before)) (arrived (c .before))
 
-same-length : tie.Need-same-length Inv-loop μ-loop
+tender-of-requires : tie.Need-tender-of-requires Inv-loop2 μ-loop2 Inv-loop μ-loop
+tender-of-requires c κs = search needs
+
+same-length : tie.Need-same-length Inv-loop2 μ-loop2 Inv-loop μ-loop
 same-length c = c .before .before .before .loop .inv .same
 
-returns : tie.Need-returns Inv-loop μ-loop
+returns : tie.Need-returns Inv-loop2 μ-loop2 Inv-loop μ-loop
 returns c =
     let l = c .before .before .before .loop in
-    let a = c .before .before .before .before .before .before .args in (
-      l .inv .runs,
-      l .inv .within,
-      l .inv .room,
-      ap (λ (b : Bool). b && not (l .now .ended) && leb 23040 (length (now (a .space)) - l .length)) (sym (c .before .before .holds-field .ensures)) ∙ c .if1 .left,
-      l .inv .given,
-    )
+    let start = c .before .before .before .before .before .before .before .before .before .before .before in
+    let first = whole-journal (c .before .before .before .before) in
+    let last : journalOf (l .ended) (partsIn (c .before .before .before)) ≡ record { ended = l .ended; opened = l .opened; codes = l .codes; n = l .n; tender = c .tender-of .result } =
+    λ i. record { ended = l .ended; opened = l .opened; codes = l .codes; n = l .n; tender = sym (c .tender-of .ensures) i } in
+    record {
+      runs = starts-from (ap viewed first) (leads-to (ap viewed last) (l .inv .runs));
+      within = l .inv .within;
+      room = l .inv .room;
+      all = ap (λ (b : Bool). b && not (l .ended) && leb 23040 (length (now (start .args .space)) - l .length)) (sym (c .before .before .holds-field .ensures)) ∙ c .before .if1 .left;
+      given = subst Given last (l .inv .given);
+    }
 
 pub run-spec : {M : Type 1} → statement M
 run-spec =
     tie.close
     (tie.spec
+    Inv-loop2
+    μ-loop2
     Inv-loop
     μ-loop
+    state-requires
+    terms-requires
+    book-requires
     loop-holds
     holds-field-requires
     sub-if1
-    is-reception-requires
-    sub-receptions
-    part-receptions-start
-    part-receptions-end
-    receptions-requires
-    with-tender-requires
-    add-length
-    loop-less
-    loop-again
     add-end
     length-at-requires
     add-end-2
@@ -225,8 +427,43 @@ run-spec =
     part-step-start-2
     part-step-end-2
     step-requires
-    add-length-2
-    loop-less-2
-    loop-again-2
+    enum-told
+    enum-told-2
+    enum-known-change
+    add-codes-in
+    sub-codes-in
+    part-codes-in-start
+    part-codes-in-end
+    codes-in-requires
+    enum-told-3
+    sub-new-book
+    part-new-book-start
+    part-new-book-end
+    new-book-requires
+    enum-known-change-2
+    enum-told-4
+    mul-book
+    element-write-book
+    element-write-book-2
+    loop2-holds
+    mul-book-2
+    element-copy-out-book
+    mul-t66
+    add-t67
+    mul-t68
+    element-set-from-book
+    mul-book-3
+    element-copy-out-book-2
+    mul-t68-2
+    add-t67-2
+    mul-t66-2
+    element-set-from-book-2
+    add-i
+    loop2-less
+    loop2-again
+    add-length
+    loop-less
+    loop-again
+    tender-of-requires
     same-length
     returns)

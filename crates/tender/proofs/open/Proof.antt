@@ -32,14 +32,14 @@ returns c =
     let i = c .before .before in
     let o = i .before .before in
     let a = o .before .before .before .args in
-    opens (now (a .m)) (now (a .codes)) (o .«open» .result .answer) (o .«open» .result .terms) (c .new-book .result) (o .«open» .ensures) (sym (i .is-opened .ensures) ∙ c .before .if1 .taken) (c .new-book .ensures)
+    opens (now (a .m)) (now (a .codes)) (o .«open» .result .answer) (o .«open» .result .terms) (o .«open» .ensures) (c .new-book .result) (sym (i .is-opened .ensures) ∙ c .before .if1 .taken) (c .new-book .ensures)
 
 returns-2 : tie.Need-returns-2
 returns-2 c =
     let i = c .before .before .before in
     let o = i .before .before in
     let a = o .before .before .before .args in
-    opens-nothing (now (a .m)) (now (a .codes)) (o .«open» .result .answer) (o .«open» .result .terms) (c .new-book2 .result) (o .«open» .ensures) (sym (i .is-opened .ensures) ∙ c .before .before .if1 .left) (c .new-book2 .ensures)
+    opens-nothing (now (a .m)) (now (a .codes)) (o .«open» .result .answer) (o .«open» .result .terms) (o .«open» .ensures) (c .new-book2 .result) (sym (i .is-opened .ensures) ∙ c .before .before .if1 .left) (c .new-book2 .ensures)
 
 pub open-spec : {M : Type 1} → statement M
 open-spec =

@@ -1,14 +1,15 @@
--- `allotment_cases::line::print_awards` is safe and ends. The loop's invariant: the counter is at most 640. Assumes nothing.
+-- `allotment_cases::line::print_awards` is safe and ends. The loop's measure: the awards left. Assumes nothing.
 use borrow.Author.Needs.{needs}
 use Prim.Native.Nat.{_≤_, _-_}
+use lib.ListN.{length}
 use Rattle.allotment_cases.proofs.line.print_awards.Statement.{statement}
 use Rattle.allotment_cases.proofs.line.print_awards.Tie as tie
 
 abbrev Inv-loop : tie.InvT-loop
-Inv-loop awards i₀ i = i ≤ 640
+Inv-loop awards i₀ i = i ≤ length awards
 
 abbrev μ-loop : tie.MeasureT-loop
-μ-loop awards i₀ i = 640 - i
+μ-loop awards i₀ i = length awards - i
 
 loop-holds : tie.Need-loop-holds Inv-loop μ-loop
 loop-holds c = search needs
@@ -16,8 +17,8 @@ loop-holds c = search needs
 mul-print-award : tie.Need-mul-print-award Inv-loop μ-loop
 mul-print-award c = search needs
 
-element-copy-out-print-award : tie.Need-element-copy-out-print-award Inv-loop μ-loop
-element-copy-out-print-award c = search needs
+shared-slice-read-print-award : tie.Need-shared-slice-read-print-award Inv-loop μ-loop
+shared-slice-read-print-award c = search needs
 
 print-award-requires : tie.Need-print-award-requires Inv-loop μ-loop
 print-award-requires c κs = search needs
@@ -42,7 +43,7 @@ print-awards-spec =
     μ-loop
     loop-holds
     mul-print-award
-    element-copy-out-print-award
+    shared-slice-read-print-award
     print-award-requires
     add-i
     loop-less

@@ -1,14 +1,15 @@
--- `allotment_cases::line::summarise` is safe and ends. The loop's invariant: the counter is at most 640. Assumes nothing.
+-- `allotment_cases::line::summarise` is safe and ends. The loop's measure: the awards left. Assumes nothing.
 use borrow.Author.Needs.{needs}
 use Prim.Native.Nat.{_≤_, _-_}
+use lib.ListN.{length}
 use Rattle.allotment_cases.proofs.line.summarise.Statement.{statement}
 use Rattle.allotment_cases.proofs.line.summarise.Tie as tie
 
 abbrev Inv-loop : tie.InvT-loop
-Inv-loop awards s₀ i₀ s i = i ≤ 640
+Inv-loop awards s₀ i₀ s i = i ≤ length awards
 
 abbrev μ-loop : tie.MeasureT-loop
-μ-loop awards s₀ i₀ s i = 640 - i
+μ-loop awards s₀ i₀ s i = length awards - i
 
 loop-holds : tie.Need-loop-holds Inv-loop μ-loop
 loop-holds c = search needs
@@ -16,8 +17,8 @@ loop-holds c = search needs
 mul-counted : tie.Need-mul-counted Inv-loop μ-loop
 mul-counted c = search needs
 
-element-copy-out-counted : tie.Need-element-copy-out-counted Inv-loop μ-loop
-element-copy-out-counted c = search needs
+shared-slice-read-counted : tie.Need-shared-slice-read-counted Inv-loop μ-loop
+shared-slice-read-counted c = search needs
 
 counted-requires : tie.Need-counted-requires Inv-loop μ-loop
 counted-requires c κs = search needs
@@ -42,7 +43,7 @@ summarise-spec =
     μ-loop
     loop-holds
     mul-counted
-    element-copy-out-counted
+    shared-slice-read-counted
     counted-requires
     add-i
     loop-less

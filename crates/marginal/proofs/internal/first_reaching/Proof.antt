@@ -1,104 +1,119 @@
--- `marginal::internal::first_reaching` meets its contract: the sum is the running total over the keys passed, and falls short of Q after each of them. Assumes nothing.
-use mathlib.Core.Path.{_≡_, sym, ap}
+-- `marginal::internal::first_reaching` meets its contract. The loop's invariant: the sum is the running total over the keys passed, and falls short of Q
+-- after each of them. Assumes nothing.
+use mathlib.Core.Path.{_≡_, sym, ap, _∙_}
+use mathlib.Core.Option.{some}
 use Prim.Native.Nat.{ℕ, _+_, _-_, _%_, _≤_, _<_}
 use native.Mathlib.Omega.{arith}
-use lib.ListN.{getD}
-use Rattle.bids.specs.Columns.{bidAt}
+use denote.Ref.{now}
+use lib.ListN.{length, getD}
+use Rattle.rules.specs.Allotment.{Bid}
+use Rattle.bids.specs.Columns.{bidsOf}
+use Rattle.bids.proofs.SideBySide.{length-of, bid-of}
 use Rattle.offer.specs.Viewed.{viewed}
 use Rattle.marginal.proofs.Running.{running, running-start, running-next, running-le, index-below, reached, not-reached}
 use Rattle.marginal.proofs.internal.first_reaching.Statement.{statement}
 use Rattle.marginal.proofs.internal.first_reaching.Tie as tie
 
 abbrev Inv-loop : tie.InvT-loop
-Inv-loop o n rates amounts keys sum₀ j₀ sum j = (j ≤ n) × (sum ≡ running rates amounts keys j) × (0 < j → sum < o .offered .0)
+Inv-loop o rates amounts keys sum₀ j₀ sum j = (j ≤ length keys) × (sum ≡ running (bidsOf rates amounts) keys j) × (0 < j → sum < o .offered .0)
 
 abbrev μ-loop : tie.MeasureT-loop
-μ-loop o n rates amounts keys sum₀ j₀ sum j = n - j
+μ-loop o rates amounts keys sum₀ j₀ sum j = length keys - j
 
 loop-holds : tie.Need-loop-holds Inv-loop μ-loop
-loop-holds c = (omega arith, running-start _ _ _, λ h. absurd (omega arith))
+loop-holds c = (omega arith, running-start _ _, λ h. absurd (omega arith))
 
--- the key passed next is one of the n, and its index one of the 640
-next : (c : tie.Else1 Inv-loop μ-loop) → c .before .loop .j < c .before .before .args .n
+-- the key passed next is one of the keys, and its index one of the bids'
+next : (c : tie.Else1 Inv-loop μ-loop) → c .before .loop .j < length (now (c .before .before .args .keys))
 next c = omega (arith, c .if1 .left)
 
-index : (c : tie.Else1 Inv-loop μ-loop) → getD (c .before .before .args .t4) (c .before .loop .j) 0 % 1024 < 640
+index : (c : tie.Else1 Inv-loop μ-loop) → getD (now (c .before .before .args .keys)) (c .before .loop .j) 0 % 1024 < length (now (c .before .before .args .amounts))
 index c =
-    let a = c .before .before .args in
-    let p = c .before .before .pre in
-    index-below (viewed (a .o)) (a .t2) (a .t3) (a .t4) (a .n) (p .1 .0) (p .1 .1) (c .before .loop .j) (next c)
+    let start = c .before .before in
+    let a = start .args in
+    omega (
+      arith,
+      length-of (now (a .rates)) (now (a .amounts)) (start .pre .0),
+      index-below (viewed (a .o)) (bidsOf (now (a .rates)) (now (a .amounts))) (now (a .keys)) (start .pre .1 .1 .0) (start .pre .1 .1 .1) (c .before .loop .j) (next c),
+    )
 
 mul-i : tie.Need-mul-i Inv-loop μ-loop
-mul-i c = omega (arith, next c, c .before .before .pre .1 .0 .few)
+mul-i c = omega arith
 
-array-read-i : tie.Need-array-read-i Inv-loop μ-loop
-array-read-i c = omega (arith, next c, c .before .before .pre .1 .0 .few)
+shared-slice-read-i : tie.Need-shared-slice-read-i Inv-loop μ-loop
+shared-slice-read-i c = omega arith
 
-mul-t17 : tie.Need-mul-t17 Inv-loop μ-loop
-mul-t17 c = omega (arith, index c)
+mul-t12 : tie.Need-mul-t12 Inv-loop μ-loop
+mul-t12 c = omega arith
 
-array-copy-out-t24 : tie.Need-array-copy-out-t24 Inv-loop μ-loop
-array-copy-out-t24 c = index c
+shared-slice-read-t18 : tie.Need-shared-slice-read-t18 Inv-loop μ-loop
+shared-slice-read-t18 c = omega (arith, index (c .before .before), c .before .before .before .before .pre .0)
 
-mul-t25 : tie.Need-mul-t25 Inv-loop μ-loop
-mul-t25 c = omega (arith, index (c .before))
+mul-t20 : tie.Need-mul-t20 Inv-loop μ-loop
+mul-t20 c = omega arith
 
-array-copy-out-t28 : tie.Need-array-copy-out-t28 Inv-loop μ-loop
-array-copy-out-t28 c = index (c .before)
+shared-slice-read-t16 : tie.Need-shared-slice-read-t16 Inv-loop μ-loop
+shared-slice-read-t16 c = index (c .before .before .before)
 
 -- the running total with the bid
 adds : (c : tie.Else1 Inv-loop μ-loop)
     → (let a = c .before .before .args in let l = c .before .loop in
-    l .sum + bidAt (a .t2) (a .t3) (getD (a .t4) (l .j) 0 % 1024) .amount ≡ running (a .t2) (a .t3) (a .t4) (l .j + 1))
+    l .sum + getD (now (a .amounts)) (getD (now (a .keys)) (l .j) 0 % 1024) 0 ≡ running (bidsOf (now (a .rates)) (now (a .amounts))) (now (a .keys)) (l .j + 1))
 adds c =
-    let a = c .before .before .args in
+    let start = c .before .before in
+    let a = start .args in
     let l = c .before .loop in
-    omega (arith, l .inv .1, running-next (a .t2) (a .t3) (a .t4) (l .j))
+    omega (
+      arith,
+      l .inv .1,
+      running-next (bidsOf (now (a .rates)) (now (a .amounts))) (now (a .keys)) (l .j) (next c),
+      ap {B = ℕ} (λ (b : Bid). b .amount) (bid-of (now (a .rates)) (now (a .amounts)) (getD (now (a .keys)) (l .j) 0 % 1024) (start .pre .0)),
+    )
 
 add-sum : tie.Need-add-sum Inv-loop μ-loop
 add-sum c =
-    let k = c .before .before .before in
-    let a = k .before .before .args in
-    let p = k .before .before .pre in
-    let l = k .before .loop in
+    let k = c .before .before .before .before in
+    let start = k .before .before in
+    let a = start .args in
     omega (
       arith,
-      p .0,
+      start .pre .1 .0,
       adds k,
-      running-le (viewed (a .o)) (a .t2) (a .t3) (a .t4) (a .n) (p .1 .0) (p .1 .1) (l .j + 1) (omega (arith, next k)),
+      running-le (viewed (a .o)) (bidsOf (now (a .rates)) (now (a .amounts))) (now (a .keys)) (start .pre .1 .1 .0) (start .pre .1 .1 .1) (k .before .loop .j + 1),
     )
 
 add-j : tie.Need-add-j Inv-loop μ-loop
-add-j c = omega (arith, next (c .before .before .before .before .before))
+add-j c = omega arith
 
 loop-less : tie.Need-loop-less Inv-loop μ-loop
-loop-less c = omega (arith, next (c .before .before .before .before .before))
+loop-less c = omega arith
 
 loop-again : tie.Need-loop-again Inv-loop μ-loop
-loop-again c =
-    let k = c .before .before .before .before .before in
-    (omega (arith, next k), adds k, λ h. c .if2 .left)
+loop-again c = (omega (arith, next (c .before .before .before .before .before .before)), adds (c .before .before .before .before .before .before), λ h. c .if2 .left)
 
 returns : tie.Need-returns Inv-loop μ-loop
 returns c =
-    let a = c .before .before .args in
-    let p = c .before .before .pre in
+    let start = c .before .before in
+    let a = start .args in
+    let bs = bidsOf (now (a .rates)) (now (a .amounts)) in
     let l = c .before .loop in
-    let all : l .j ≡ a .n = c .if1 .taken in
+    let all : l .j ≡ length (now (a .keys)) = c .if1 .taken in
     sym
-    (not-reached (viewed (a .o)) (a .t2) (a .t3) (a .t4) (a .n) (p .1 .0) (p .1 .1)
-    (λ h. omega (arith, ap (running (a .t2) (a .t3) (a .t4)) all, l .inv .1, l .inv .2 (omega arith))))
+    (not-reached (viewed (a .o)) bs (now (a .keys)) (start .pre .1 .1 .0) (start .pre .1 .1 .1)
+    (λ h. omega (arith, ap (running bs (now (a .keys))) all, l .inv .1, l .inv .2 (omega arith))))
 
 returns-2 : tie.Need-returns-2 Inv-loop μ-loop
 returns-2 c =
-    let k = c .before .before .before .before .before .before in
-    let a = k .before .before .args in
-    let p = k .before .before .pre in
+    let k = c .before .before .before .before .before .before .before in
+    let start = k .before .before in
+    let a = start .args in
+    let bs = bidsOf (now (a .rates)) (now (a .amounts)) in
     let l = k .before .loop in
-    sym
-    (reached (viewed (a .o)) (a .t2) (a .t3) (a .t4) (a .n) (p .1 .0) (p .1 .1) (l .j) (next k)
+    ap (λ (b : Bid). some (b .rate)) (sym (bid-of (now (a .rates)) (now (a .amounts)) (getD (now (a .keys)) (l .j) 0 % 1024) (start .pre .0)))
+    ∙ sym
+    (reached (viewed (a .o)) bs (now (a .keys)) (start .pre .1 .1 .0) (start .pre .1 .1 .1) (l .j) (next k)
     (λ h. omega (arith, l .inv .1, l .inv .2 h))
-    (omega (arith, c .before .if2 .taken, adds k, running-next (a .t2) (a .t3) (a .t4) (l .j))))
+    (omega (arith, c .before .if2 .taken, adds k, running-next bs (now (a .keys)) (l .j) (next k))))
 
 pub first-reaching-spec : {M : Type 1} → statement M
 first-reaching-spec =
@@ -108,11 +123,11 @@ first-reaching-spec =
     μ-loop
     loop-holds
     mul-i
-    array-read-i
-    mul-t17
-    array-copy-out-t24
-    mul-t25
-    array-copy-out-t28
+    shared-slice-read-i
+    mul-t12
+    shared-slice-read-t18
+    mul-t20
+    shared-slice-read-t16
     add-sum
     add-j
     loop-less

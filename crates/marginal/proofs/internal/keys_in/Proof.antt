@@ -1,56 +1,62 @@
--- `marginal::internal::keys_in` meets its contract: the keys are those of the bids in among the places passed. Assumes nothing.
+-- `marginal::internal::keys_in` meets its contract. The loop's invariant: the first n keys are those of the bids in among the bids passed. Assumes nothing.
 use borrow.Author.Needs.{needs}
-use mathlib.Core.Path.{_≡_, subst}
-use Prim.Native.Nat.{ℕ, _-_, _≤_}
+use mathlib.Core.Path.{_≡_, sym, ap, _∙_}
+use mathlib.Core.Bool.{cond}
+use Prim.Native.Nat.{_-_, _/_, _≤_}
 use native.Mathlib.Omega.{arith}
-use lib.ListN.{length, length-set, length-replicate}
-use Rattle.rules.specs.Allotment.{isIn}
-use Rattle.bids.specs.Columns.{bidAt}
+use denote.Ref.{now}
+use lib.ListN.{length, take, length-set}
+use Rattle.rules.specs.Allotment.{Bid, isIn}
+use Rattle.bids.specs.Columns.{bidsOf}
+use Rattle.bids.proofs.SideBySide.{bidIn, length-of, bid-of}
 use Rattle.offer.specs.Viewed.{viewed}
-use Rattle.marginal.specs.Ranks.{Ranked}
+use Rattle.marginal.specs.Ranks.{ranks}
 use Rattle.marginal.proofs.Sums.{cond-le}
-use Rattle.marginal.proofs.Storing.{no-keys, ranked-more}
+use Rattle.marginal.proofs.Storing.{Among, no-keys, ranked-more, ranked-all}
 use Rattle.marginal.proofs.internal.keys_in.Statement.{statement}
 use Rattle.marginal.proofs.internal.keys_in.Tie as tie
 
 abbrev Inv-loop : tie.InvT-loop
-Inv-loop o rates amounts side keys₀ n₀ i₀ keys n i = (i ≤ 640) × (length keys ≡ 640) × Ranked (viewed o) rates amounts i keys n
+Inv-loop o rates amounts keys₀ side n₀ i₀ keys n i =
+    (i ≤ length amounts)
+    × (n ≤ i)
+    × (length keys ≡ length keys₀)
+    × Among (viewed o) (bidsOf rates amounts) (take i (bidsOf rates amounts)) (take n keys)
 
 abbrev μ-loop : tie.MeasureT-loop
-μ-loop o rates amounts side keys₀ n₀ i₀ keys n i = 640 - i
+μ-loop o rates amounts keys₀ side n₀ i₀ keys n i = length amounts - i
 
 loop-holds : tie.Need-loop-holds Inv-loop μ-loop
-loop-holds c = (omega arith, length-replicate {A = ℕ} 640 0, no-keys _ _ _ _)
+loop-holds c = (omega arith, omega arith, omega arith, no-keys _ _)
 
-mul-t12 : tie.Need-mul-t12 Inv-loop μ-loop
-mul-t12 c = omega arith
+mul-t9 : tie.Need-mul-t9 Inv-loop μ-loop
+mul-t9 c = omega arith
 
-array-copy-out-t15 : tie.Need-array-copy-out-t15 Inv-loop μ-loop
-array-copy-out-t15 c = omega arith
+shared-slice-read-t12 : tie.Need-shared-slice-read-t12 Inv-loop μ-loop
+shared-slice-read-t12 c = omega arith
 
-mul-t16 : tie.Need-mul-t16 Inv-loop μ-loop
-mul-t16 c = omega arith
+mul-keys : tie.Need-mul-keys Inv-loop μ-loop
+mul-keys c = omega arith
 
-array-copy-out-t19 : tie.Need-array-copy-out-t19 Inv-loop μ-loop
-array-copy-out-t19 c = omega arith
+shared-slice-read-keys : tie.Need-shared-slice-read-keys Inv-loop μ-loop
+shared-slice-read-keys c = omega arith
 
 key-requires : tie.Need-key-requires Inv-loop μ-loop
 key-requires c κs = omega arith
 
-mul-keys : tie.Need-mul-keys Inv-loop μ-loop
-mul-keys c = omega (arith, c .before .before .before .before .loop .inv .2 .few)
+mul-keys-2 : tie.Need-mul-keys-2 Inv-loop μ-loop
+mul-keys-2 c = omega arith
 
-array-write-keys : tie.Need-array-write-keys Inv-loop μ-loop
-array-write-keys c = omega (arith, c .before .before .before .before .loop .inv .2 .few)
+slice-write-keys : tie.Need-slice-write-keys Inv-loop μ-loop
+slice-write-keys c = omega arith
 
 one-in-requires : tie.Need-one-in-requires Inv-loop μ-loop
 one-in-requires c κs = search needs
 
 add-n : tie.Need-add-n Inv-loop μ-loop
 add-n c =
-    let a = c .before .before .before .before .before .before .args in
-    let l = c .before .before .before .before .before .loop in
-    omega (arith, l .inv .2 .few, c .one-in .ensures, cond-le (isIn (viewed (a .o)) (bidAt (a .t2) (a .t3) (l .i))) 1)
+    let a = c .before .before .before .before .before .before .before .before .before .args in
+    omega (arith, c .one-in .ensures, cond-le (isIn (viewed (a .o)) (bidIn (now (a .rates)) (now (a .amounts)) (c .before .before .before .before .before .loop .i))) 1)
 
 add-i : tie.Need-add-i Inv-loop μ-loop
 add-i c = omega arith
@@ -60,21 +66,36 @@ loop-less c = omega arith
 
 loop-again : tie.Need-loop-again Inv-loop μ-loop
 loop-again c =
-    let a = c .before .before .before .before .before .before .args in
+    let start = c .before .before .before .before .before .before .before .before .before in
+    let a = start .args in
     let l = c .before .before .before .before .before .loop in
-    let key = c .before .key in (
+    let o = viewed (a .o) in
+    let rates = now (a .rates) in
+    let amounts = now (a .amounts) in
+    let key = c .before .key in
+    let e = sym (bid-of rates amounts (l .i) (start .pre .0)) in (
       omega arith,
-      simp length-set (l .inv .1),
-      ranked-more (viewed (a .o)) (a .t2) (a .t3) (l .i) (l .n) (key .result) (l .keys) (l .inv .2) (omega arith) (omega (arith, l .inv .2 .few))
-          (key .ensures .0) (key .ensures .1) (c .one-in .result) (c .one-in .ensures),
+      omega (arith, c .one-in .ensures, cond-le (isIn o (bidIn rates amounts (l .i))) 1),
+      simp length-set (l .inv .2),
+      ranked-more o (bidsOf rates amounts) (l .i) (l .n) (key .result) (l .keys) (l .inv .3)
+          (omega (arith, length-of rates amounts (start .pre .0)))
+          (omega arith)
+          (key .ensures .0)
+          (ap (λ (b : Bid). ranks (o .side) (b .rate) (key .result / 1024)) (sym e) ∙ key .ensures .1)
+          (c .one-in .result)
+          (c .one-in .ensures ∙ ap (λ (b : Bid). cond (isIn o b) 1 0) e),
     )
+
+same-length : tie.Need-same-length Inv-loop μ-loop
+same-length c = omega arith
 
 returns : tie.Need-returns Inv-loop μ-loop
 returns c =
-    let a = c .before .before .args in
+    let start = c .before .before .before .before .before in
+    let a = start .args in
     let l = c .before .loop in
-    let e : _≡_ {A = ℕ} (l .i) 640 = omega arith in
-    subst (λ (d : ℕ). Ranked (viewed (a .o)) (a .t2) (a .t3) d (l .keys) (l .n)) e (l .inv .2)
+    let all = length-of (now (a .rates)) (now (a .amounts)) (start .pre .0) in
+    (omega arith, ranked-all (viewed (a .o)) (bidsOf (now (a .rates)) (now (a .amounts))) (l .i) (take (l .n) (l .keys)) (omega (arith, all)) (l .inv .3))
 
 pub keys-in-spec : {M : Type 1} → statement M
 keys-in-spec =
@@ -83,16 +104,17 @@ keys-in-spec =
     Inv-loop
     μ-loop
     loop-holds
-    mul-t12
-    array-copy-out-t15
-    mul-t16
-    array-copy-out-t19
-    key-requires
+    mul-t9
+    shared-slice-read-t12
     mul-keys
-    array-write-keys
+    shared-slice-read-keys
+    key-requires
+    mul-keys-2
+    slice-write-keys
     one-in-requires
     add-n
     add-i
     loop-less
     loop-again
+    same-length
     returns)

@@ -1,77 +1,99 @@
 -- `tender::Tender::allot` meets its contract. Assumes nothing.
+use mathlib.Core.Path.{_≡_, ap, _∙_}
+use mathlib.Core.List.{List}
+use Prim.Native.Nat.{ℕ, _*_, _-_, _≤_}
+use native.Mathlib.Nat.{sub-zero}
+use native.Mathlib.Omega.{arith}
+use lib.ListN.{length, take, length-replicate}
+use lib.Seq.{length-take-le}
+use Rattle.book.specs.Viewed.{upTo64}
+use Rattle.book.proofs.Empty.{upTo64-small}
+use Rattle.tender.proofs.Allotting.{allots}
 use borrow.Author.Needs.{needs}
-use mathlib.Core.Path.{refl, sym, subst}
-use Rattle.envelope.specs.Refusals.{firstHolding}
-use Rattle.rules.specs.Calls.{isRevoked, isOpen, isAnnounced, allottingRefused}
-use Rattle.tender.specs.declared.Refusal.the-variants as refusal
-use Rattle.tender.specs.declared.State.the-variants as state
-use Rattle.tender.specs.declared.Allotted.{Allotted}
-use Rattle.tender.specs.Calls.{Allots}
-use Rattle.tender.proofs.Allotting.{number-in, allots-refused}
 use Rattle.tender.proofs.Tender.allot.Statement.{statement}
 use Rattle.tender.proofs.Tender.allot.Tie as tie
 
-enum-told : tie.Need-enum-told
-enum-told c = search needs
+up-to-64-requires : tie.Need-up-to-64-requires
+up-to-64-requires c κs = search needs
 
-unallotted-requires : tie.Need-unallotted-requires
-unallotted-requires c κs = search needs
+-- ten places for each of at most 64 codes
+few : (c : tie.After-up-to-64) → 10 * c .up-to-64 .result ≤ 640
+few c = omega (arith, c .up-to-64 .ensures, upTo64-small (c .before .before .before .args .self .book .n) .0)
 
-enum-told-2 : tie.Need-enum-told-2
-enum-told-2 c = search needs
+room : (c : tie.After-no-amounts) → length (c .no-amounts .result) ≡ 640
+room c = ap length (c .no-amounts .ensures) ∙ length-replicate {A = ℕ} 640 0
 
-award-requires : tie.Need-award-requires
-award-requires c κs = search needs
+mul-end : tie.Need-mul-end
+mul-end c = let e = few c in omega (arith, e)
 
-enum-told-3 : tie.Need-enum-told-3
-enum-told-3 c = search needs
+no-rates-requires : tie.Need-no-rates-requires
+no-rates-requires c κs = search needs
 
-unallotted-requires-2 : tie.Need-unallotted-requires-2
-unallotted-requires-2 c κs = search needs
+no-amounts-requires : tie.Need-no-amounts-requires
+no-amounts-requires c κs = search needs
 
-enum-told-4 : tie.Need-enum-told-4
-enum-told-4 c = search needs
+sub-allot-book : tie.Need-sub-allot-book
+sub-allot-book c = search needs
 
-unallotted-requires-3 : tie.Need-unallotted-requires-3
-unallotted-requires-3 c κs = search needs
+part-rates-start : tie.Need-part-rates-start
+part-rates-start c = search needs
+
+part-rates-end : tie.Need-part-rates-end
+part-rates-end c = let e = few (c .before .before) in omega (arith, e, c .before .no-rates .ensures)
+
+sub-allot-book-2 : tie.Need-sub-allot-book-2
+sub-allot-book-2 c = search needs
+
+part-awards-start : tie.Need-part-awards-start
+part-awards-start c = search needs
+
+part-awards-end : tie.Need-part-awards-end
+part-awards-end c = let e = few (c .before .before .before) in let r = room (c .before) in omega (arith, e, r)
+
+-- as much is lent as there are places
+lent : (l : List ℕ) (n k : ℕ) → n ≡ 10 * k → n ≤ length l → length (take (n - 0) l) ≡ 10 * k
+lent l n k e h = ap (λ (m : ℕ). length (take m l)) (sub-zero n) ∙ length-take-le n l h ∙ e
+
+allot-book-requires : tie.Need-allot-book-requires
+allot-book-requires c κs =
+    let u = c .before .before .before .before in
+    let e = few u in
+    let r = room (c .before .before) in
+    let n = 10 * u .up-to-64 .result in
+    let q : n ≡ 10 * upTo64 (u .before .before .before .args .self .book .n) = ap (λ (k : ℕ). 10 * k) (u .up-to-64 .ensures) in
+    (lent (c .before .before .before .no-rates .result) n _ q (omega (arith, e, c .before .before .before .no-rates .ensures)), lent (c .before .before .no-amounts .result) n _ q (omega (arith, e, r)))
+
+in-state-unless-requires : tie.Need-in-state-unless-requires
+in-state-unless-requires c κs = search needs
 
 returns : tie.Need-returns
-unfolding allottingRefused firstHolding isRevoked isOpen isAnnounced
 returns c =
-    let start = c .before .before .before in
-    let t = start .args .self in
-    subst (λ (r : Allotted). Allots t r) (sym (c .unallotted .ensures)) (allots-refused t (start .pre) refusal.Open (number-in t state.Open (c .before .enum-told .given .1)) refl)
-
-returns-2 : tie.Need-returns-2
-returns-2 c = search needs
-
-returns-3 : tie.Need-returns-3
-unfolding allottingRefused firstHolding isRevoked isOpen isAnnounced
-returns-3 c =
-    let start = c .before .before .before in
-    let t = start .args .self in
-    subst (λ (r : Allotted). Allots t r) (sym (c .unallotted2 .ensures)) (allots-refused t (start .pre) refusal.Announced (number-in t state.Announced (c .before .enum-told3 .given .1)) refl)
-
-returns-4 : tie.Need-returns-4
-unfolding allottingRefused firstHolding isRevoked isOpen isAnnounced
-returns-4 c =
-    let start = c .before .before .before in
-    let t = start .args .self in
-    subst (λ (r : Allotted). Allots t r) (sym (c .unallotted3 .ensures)) (allots-refused t (start .pre) refusal.Revoked (number-in t state.Revoked (c .before .enum-told4 .given .1)) refl)
+    let start = c .before .before .before .before .before .before .before .before .before .before .before .before in
+    let a = c .before .before .before .before .allot-book in
+    let u = c .before .before .before .before .before .before .before .before .before in
+    let n = 10 * u .up-to-64 .result in
+    let zeros = c .before .before .before .before .before .before .before .no-amounts in
+    let r = room (c .before .before .before .before .before .before .before) in
+    let e = few u in
+    let s = c .before .in-state-unless in
+    allots (start .args .self) (start .pre) (a .result) (s .result) n (a .last .1 .1 .1 .1 .0) (zeros .result) (zeros .ensures) e
+    (a .kept .1 .1 .1 .1 .0 ∙ ap (λ (m : ℕ). length (take m (zeros .result))) (sub-zero n) ∙ length-take-le n (zeros .result) (omega (arith, e, r)))
+    (a .ensures .1) (s .ensures .1) (s .ensures .0)
 
 pub allot-spec : {M : Type 1} → statement M
 allot-spec =
     tie.close
     (tie.spec
-    enum-told
-    unallotted-requires
-    enum-told-2
-    award-requires
-    enum-told-3
-    unallotted-requires-2
-    enum-told-4
-    unallotted-requires-3
-    returns
-    returns-2
-    returns-3
-    returns-4)
+    up-to-64-requires
+    mul-end
+    no-rates-requires
+    no-amounts-requires
+    sub-allot-book
+    part-rates-start
+    part-rates-end
+    sub-allot-book-2
+    part-awards-start
+    part-awards-end
+    allot-book-requires
+    in-state-unless-requires
+    returns)

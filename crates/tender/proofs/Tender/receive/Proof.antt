@@ -18,7 +18,7 @@ use Rattle.tender.specs.declared.Received.{Received}
 use Rattle.tender.specs.declared.internal.Outcome.{Outcome}
 use Rattle.tender.specs.Viewed.{viewed, numberOf, isSome, tenderOf, isHeld}
 use Rattle.tender.specs.Calls.{Receives}
-use Rattle.tender.proofs.Ladders.{none-of}
+use Rattle.tender.proofs.Conditions.{none-of}
 use Rattle.tender.proofs.Answering.{receives-refused, receives-answered}
 use Rattle.tender.proofs.Tender.receive.Statement.{statement}
 use Rattle.tender.proofs.Tender.receive.Tie as tie

@@ -15,7 +15,7 @@ use Rattle.checks.specs.Columns.{received}
 use Rattle.tender.specs.declared.Refusal.the-variants as refusal
 use Rattle.tender.specs.declared.Tender.{Tender}
 use Rattle.tender.specs.Viewed.{viewed, numberOf, isSome, tenderOf}
-use Rattle.tender.proofs.Ladders.{refused-first, refused-later, clock-valid}
+use Rattle.tender.proofs.Conditions.{refused-first, refused-later, clock-valid}
 use Rattle.tender.proofs.Answering.{number-read, readable-read, fields-read}
 use Rattle.tender.proofs.Outcomes.{comes-refused, comes-answered}
 use Rattle.tender.proofs.internal.outcome_of.Statement.{statement}

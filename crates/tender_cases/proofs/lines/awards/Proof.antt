@@ -13,11 +13,11 @@ abbrev μ-loop : tie.MeasureT-loop
 loop-holds : tie.Need-loop-holds Inv-loop μ-loop
 loop-holds c = search needs
 
-mul-a : tie.Need-mul-a Inv-loop μ-loop
-mul-a c = search needs
+mul-award : tie.Need-mul-award Inv-loop μ-loop
+mul-award c = search needs
 
-array-copy-out-a : tie.Need-array-copy-out-a Inv-loop μ-loop
-array-copy-out-a c = search needs
+array-read-award : tie.Need-array-read-award Inv-loop μ-loop
+array-read-award c = search needs
 
 award-requires : tie.Need-award-requires Inv-loop μ-loop
 award-requires c κs = search needs
@@ -41,8 +41,8 @@ awards-spec =
     Inv-loop
     μ-loop
     loop-holds
-    mul-a
-    array-copy-out-a
+    mul-award
+    array-read-award
     award-requires
     add-i
     loop-less

@@ -1,0 +1,7 @@
+pub mod Answered
+pub mod Taking
+pub mod Admitted
+pub mod Clock
+pub mod Announcing
+pub mod Receiving
+pub mod Awarding

@@ -1,0 +1,66 @@
+-- `tender::internal::close_refusal` meets its contract. Assumes nothing.
+use mathlib.Core.Path.{_≡_, refl, sym, ap, _∙_}
+use mathlib.Core.Bool.{Bool, not}
+use mathlib.Core.List.{[], _∷_}
+use Rattle.envelope.specs.Refusals.{firstHolding}
+use Rattle.rules.specs.Calls.{isRevoked, isOver, clockInvalid, beforeCutOff, closingRefused}
+use Rattle.book.specs.declared.Book.{Book}
+use Rattle.tender.specs.Viewed.{viewed, numberOf, tenderOf}
+use Rattle.tender.proofs.Conditions.{refused-first, refused-later}
+use borrow.Author.Needs.{needs}
+use Rattle.tender.proofs.internal.close_refusal.Statement.{statement}
+use Rattle.tender.proofs.internal.close_refusal.Tie as tie
+
+not-open-requires : tie.Need-not-open-requires
+not-open-requires c κs = search needs
+
+is-refused-requires : tie.Need-is-refused-requires
+is-refused-requires c κs = search needs
+
+returns : tie.Need-returns
+unfolding closingRefused
+returns c book =
+    let n = c .before .before in
+    let a = n .before .args in
+    let u = tenderOf (a .state) (a .terms) book in
+    let t = viewed u in
+    sym (refused-first ((8, isRevoked t) ∷ (9, isOver t) ∷ (10, clockInvalid (a .date) (a .time)) ∷ []) ((13, beforeCutOff (t .terms) (a .date) (a .time)) ∷ []) (numberOf (n .not-open .result)) (n .not-open .ensures u refl) (sym (c .before .is-refused .ensures) ∙ c .if1 .taken))
+
+-- what is left to ask of an open tender at a valid clock reading
+last-asked : (c : tie.Else1) (book : Book)
+    → (let a = c .before .before .before .args in
+    let t = viewed (tenderOf (a .state) (a .terms) book) in
+    closingRefused t (a .date) (a .time) ≡ firstHolding ((13, beforeCutOff (t .terms) (a .date) (a .time)) ∷ []))
+unfolding closingRefused
+last-asked c book =
+    let n = c .before .before in
+    let a = n .before .args in
+    let u = tenderOf (a .state) (a .terms) book in
+    let t = viewed u in
+    refused-later ((8, isRevoked t) ∷ (9, isOver t) ∷ (10, clockInvalid (a .date) (a .time)) ∷ []) ((13, beforeCutOff (t .terms) (a .date) (a .time)) ∷ []) (numberOf (n .not-open .result)) (n .not-open .ensures u refl) (sym (c .before .is-refused .ensures) ∙ c .if1 .left)
+
+moment-later-requires : tie.Need-moment-later-requires
+moment-later-requires c κs = search needs
+
+returns-2 : tie.Need-returns-2
+unfolding firstHolding beforeCutOff
+returns-2 c book =
+    let l = c .before in
+    sym (last-asked (l .before) book ∙ ap (λ (b : Bool). firstHolding ((13, not b) ∷ [])) (sym (l .moment-later .ensures) ∙ c .if2 .taken))
+
+returns-3 : tie.Need-returns-3
+unfolding firstHolding beforeCutOff
+returns-3 c book =
+    let l = c .before in
+    sym (last-asked (l .before) book ∙ ap (λ (b : Bool). firstHolding ((13, not b) ∷ [])) (sym (l .moment-later .ensures) ∙ c .if2 .left))
+
+pub close-refusal-spec : {M : Type 1} → statement M
+close-refusal-spec =
+    tie.close
+    (tie.spec
+    not-open-requires
+    is-refused-requires
+    returns
+    moment-later-requires
+    returns-2
+    returns-3)
