@@ -28,6 +28,7 @@ pub extern "C" fn measured_share(a: u64, m: u64, e: u64) -> u64 {
     divide(Amount(a), Amount(m), Amount(e)).quotient.0
 }
 
+// Zeros for awards that were refused, which the benchmark expects.
 fn clear(awards: &mut [u64]) {
     let mut i = 0;
     while i < awards.len() {
@@ -36,10 +37,12 @@ fn clear(awards: &mut [u64]) {
     }
 }
 
+// The side that a flag in C stands for.
 fn side_of(lp: bool) -> Side {
     if lp { Side::Lp } else { Side::La }
 }
 
+// A marginal rate as a number.
 fn number_of(m: MarginalRate) -> u64 {
     match m {
         MarginalRate::At(rate) => rate.0 as u64,

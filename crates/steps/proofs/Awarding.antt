@@ -4,11 +4,10 @@ use mathlib.Core.Bool.{cond, true, false, false≢true}
 use mathlib.Core.List.{List, [], _∷_, _++_}
 use mathlib.Core.Option.{Option, none, some}
 use Prim.Native.Nat.{ℕ, _-_, _≤_, suc}
-use native.Mathlib.Nat.{sub-zero}
 use native.Mathlib.Omega.{arith}
 use lib.Dec.{ltb}
-use lib.ListN.{length, take, drop, replicate, length-append, length-drop}
-use lib.Seq.{drop-append-le, take-at, length-take-le}
+use lib.ListN.{length, drop, replicate, length-append, length-drop}
+use lib.Seq.{drop-append-le}
 use Rattle.envelope.specs.Refusals.{unlessRefused, orZero}
 use Rattle.rules.specs.Allotment.{Bid, awards}
 use Rattle.rules.specs.Opening.{offerOf}
@@ -73,10 +72,3 @@ module _ (t : rules.Tender) where
 pub awards-told : {t : Tender} {space left : List ℕ} {r : AllotAnswer} → AllotsBids t space r left → isSome (numberOf (r .refusal)) ≡ false → left ≡ awards (offerOf (tender.viewed t .terms)) (bidsInBook (tender.viewed t .book))
 awards-told {t} {space} {left} {r} a h =
     ap (λ (x : Option ℕ × List ℕ). x .1) (a .awarded ∙ ap (λ (l : Option ℕ). unlessRefused l (none, space) (awardedTo (tender.viewed t))) (none-of (numberOf (r .refusal)) h))
-
--- a part of so many elements that was lent and written, and is lent again
-pub lent-again : (part rest : List ℕ) (n : ℕ) → length part ≡ n → take (n - 0) (part ++ rest) ≡ part
-lent-again part rest n e = ap (λ (k : ℕ). take k (part ++ rest)) (sub-zero n) ∙ take-at part rest n e
-
-pub lent-length : (l : List ℕ) (n : ℕ) → n ≤ length l → length (take (n - 0) l) ≡ n
-lent-length l n h = ap (λ (k : ℕ). length (take k l)) (sub-zero n) ∙ length-take-le n l h

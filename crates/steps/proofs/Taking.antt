@@ -5,8 +5,10 @@ use mathlib.Core.List.{List, []}
 use mathlib.Core.Option.{Option, none, some}
 use Prim.Native.Nat.{ℕ, _<_}
 use native.Mathlib.Omega.{arith}
-use lib.ListN.{take, length-take}
+use lib.Dec.{eqb}
+use lib.ListN.{length, take, length-take}
 use lib.Seq.{take-all}
+use borrow.Author.Tests.{eq-eqb, ne-eqb}
 use Rattle.output.specs.Output.{Wrote}
 use Rattle.output.proofs.Output.{nothing}
 use Rattle.envelope.specs.Refusals.{unlessRefused, orZero}
@@ -39,6 +41,16 @@ no-tender p call h = subst (λ (b : Bool). (logWith p b, []) ≡ onTender (logWi
 
 pub on-tender : (p : Parts) (call : rules.Tender → rules.Tender × List ℕ) → p .opened ≡ true → (withTender p (call (tenderIn p) .0), call (tenderIn p) .1) ≡ onTender (viewed p) call
 on-tender p call h = sym (ap (λ (b : Bool). onTender (logWith p b) call) h)
+
+-- a field that calls the tender if it has so many bytes, and ends the log if not
+abbrev callOf : ℕ → (rules.Tender → rules.Tender × List ℕ) → Log → List ℕ → Step
+callOf k call l s = cond (eqb (length s) k) (onTender l call) (ending l)
+
+pub other-length : (k : ℕ) (call : rules.Tender → rules.Tender × List ℕ) (l : Log) (s : List ℕ) → (length s ≡ k → ⊥) → ending l ≡ callOf k call l s
+other-length k call l s h = sym (rw (ne-eqb (length s) k h) refl)
+
+pub its-length : (k : ℕ) (call : rules.Tender → rules.Tender × List ℕ) (l : Log) (s : List ℕ) → length s ≡ k → onTender l call ≡ callOf k call l s
+its-length k call l s h = sym (rw (eq-eqb (length s) k h) refl)
 
 -- the same step under another name
 pub takes-as : {expected other : Step} {p : Parts} {s space left : List ℕ} {r : Taken} → expected ≡ other → Takes expected p s space r left → Takes other p s space r left

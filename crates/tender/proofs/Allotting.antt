@@ -8,6 +8,7 @@ use native.Mathlib.Nat.{sub-zero}
 use native.Mathlib.Omega.{arith}
 use lib.Dec.{ltb}
 use lib.ListN.{length, take, drop, replicate, take-append-drop}
+use lib.Seq.{take-at, length-take-le}
 use Rattle.envelope.specs.Refusals.{firstHolding, unlessRefused}
 use Rattle.rules.specs.Allotment.{Bid, Offer, total, awards, marginalRate}
 use Rattle.rules.specs.Opening.{offerOf}
@@ -73,6 +74,13 @@ module _ (t : Tender) (space : List ℕ) (r : AllotAnswer) where
                 ∙ ap (λ (l : List Bid). (marginalRate (offerOf (viewed t .terms)) l, awards (offerOf (viewed t .terms)) l)) all
                 ∙ sym (ap (λ (l : Option ℕ). unlessRefused l (none, space) (awardedTo (viewed t))) number);
           }
+
+-- a part of so many elements that is lent, and lent again after it was written
+pub lent-length : (l : List ℕ) (n : ℕ) → n ≤ length l → length (take (n - 0) l) ≡ n
+lent-length l n h = ap (λ (k : ℕ). length (take k l)) (sub-zero n) ∙ length-take-le n l h
+
+pub lent-again : (part rest : List ℕ) (n : ℕ) → length part ≡ n → take (n - 0) (part ++ rest) ≡ part
+lent-again part rest n e = ap (λ (k : ℕ). take k (part ++ rest)) (sub-zero n) ∙ take-at part rest n e
 
 -- what is left of zeros
 zeros-after : (m n : ℕ) → m ≤ n → drop {A = ℕ} m (replicate n 0) ≡ replicate (n - m) 0

@@ -1,18 +1,15 @@
 -- `steps::fields::allotting` meets its contract. Assumes nothing.
-use mathlib.Core.Path.{_≡_, refl, sym, _∙_}
+use mathlib.Core.Path.{_≡_, _∙_}
 use mathlib.Core.Bool.{true}
-use mathlib.Core.List.{List}
-use Prim.Native.Nat.{ℕ}
 use denote.Ref.{now}
-use lib.ListN.{length}
-use borrow.Author.Tests.{eq-eqb, ne-eqb, not-true, not-false}
+use borrow.Author.Tests.{not-true, not-false}
 use Rattle.envelope.specs.Refusals.{unlessRefused}
 use Rattle.rules.specs.Calls as rules
 use Rattle.rules.specs.Calls.{allottingRefused}
-use Rattle.log.specs.Steps.{ending, onTender, allotted, allotting}
+use Rattle.log.specs.Steps.{onTender, allotted, allotting}
 use Rattle.tender.specs.declared.State.the-variants as state
 use Rattle.steps.specs.Parts.{Parts, parts, tenderIn, viewed, withTender}
-use Rattle.steps.proofs.Taking.{takes-as, takes-ended, takes-skipped, no-tender, on-tender, takes-state}
+use Rattle.steps.proofs.Taking.{other-length, its-length, takes-as, takes-ended, takes-skipped, no-tender, on-tender, takes-state}
 use borrow.Author.Needs.{needs}
 use Rattle.steps.proofs.fields.allotting.Statement.{statement}
 use Rattle.steps.proofs.fields.allotting.Tie as tie
@@ -20,30 +17,23 @@ use Rattle.steps.proofs.fields.allotting.Tie as tie
 with-change-requires : tie.Need-with-change-requires
 with-change-requires c κs = search needs
 
--- a field of another length, and one of its length
-ends : (s : List ℕ) (p : Parts) → (length s ≡ 0 → ⊥) → ending (viewed p) ≡ allotting (viewed p) s
-unfolding allotting
-ends s p h = sym (rw (ne-eqb (length s) 0 h) refl)
-
-calls : (s : List ℕ) (p : Parts) → length s ≡ 0 → onTender (viewed p) allotted ≡ allotting (viewed p) s
-unfolding allotting
-calls s p h = sym (rw (eq-eqb (length s) 0 h) refl)
-
 returns : tie.Need-returns
+unfolding allotting
 returns c codes n g =
     let a = c .before .before .before .before .args in
     let p = parts (a .opened) codes n (a .state) (a .terms) (a .book) in
-    takes-as (ends (now (a .s)) p (c .before .if1 .taken)) (takes-ended p g (now (a .s)) (now (a .space)) (c .with-change .result) (c .with-change .ensures .1) (c .with-change .ensures .0))
+    takes-as (other-length 0 allotted (viewed p) (now (a .s)) (c .before .if1 .taken)) (takes-ended p g (now (a .s)) (now (a .space)) (c .with-change .result) (c .with-change .ensures .1) (c .with-change .ensures .0))
 
 with-change-requires-2 : tie.Need-with-change-requires-2
 with-change-requires-2 c κs = search needs
 
 returns-2 : tie.Need-returns-2
+unfolding allotting
 returns-2 c codes n g =
     let a = c .before .before .before .before .before .args in
     let s = now (a .s) in
     let p = parts (a .opened) codes n (a .state) (a .terms) (a .book) in
-    takes-as (no-tender p allotted (not-true _ (c .before .if2 .taken)) ∙ calls s p (c .before .before .if1 .left)) (takes-skipped p g s (now (a .space)) (c .with-change2 .result) (c .with-change2 .ensures .1) (c .with-change2 .ensures .0))
+    takes-as (no-tender p allotted (not-true _ (c .before .if2 .taken)) ∙ its-length 0 allotted (viewed p) s (c .before .before .if1 .left)) (takes-skipped p g s (now (a .space)) (c .with-change2 .result) (c .with-change2 .ensures .1) (c .with-change2 .ensures .0))
 
 put-allotment-requires : tie.Need-put-allotment-requires
 put-allotment-requires c κs = search needs
@@ -58,13 +48,14 @@ unfolding rules.allot
 called p o = on-tender p allotted o
 
 returns-3 : tie.Need-returns-3
+unfolding allotting
 returns-3 c codes n g =
     let w = c .before .before .put-allotment in
     let a = c .before .before .before .before .before .before .before .before .args in
     let s = now (a .s) in
     let p = parts (a .opened) codes n (a .state) (a .terms) (a .book) in
     let o = not-false _ (c .before .before .before .before .if2 .left) in
-    takes-as (called p o ∙ calls s p (c .before .before .before .before .before .if1 .left))
+    takes-as (called p o ∙ its-length 0 allotted (viewed p) s (c .before .before .before .before .before .if1 .left))
     (takes-state p g s (now (a .space)) (w .result) state.Announced (allottingRefused (tenderIn p)) (allotted (tenderIn p) .1) (w .last .1 .1 .1 .0) o (w .ensures .1) (w .ensures .0))
 
 pub allotting-spec : {M : Type 1} → statement M

@@ -1,20 +1,19 @@
 -- `steps::fields::closing` meets its contract. Assumes nothing.
-use mathlib.Core.Path.{_≡_, refl, sym, ap, ap₂, _∙_}
+use mathlib.Core.Path.{_≡_, ap, ap₂, _∙_}
 use mathlib.Core.Bool.{true}
 use mathlib.Core.List.{List}
 use mathlib.Core.Option.{Option}
 use Prim.Native.Nat.{ℕ}
 use denote.Ref.{now}
-use lib.ListN.{length}
-use borrow.Author.Tests.{eq-eqb, ne-eqb, not-true, not-false}
+use borrow.Author.Tests.{not-true, not-false}
 use Rattle.envelope.specs.Refusals.{unlessRefused}
 use Rattle.rules.specs.Calls as rules
 use Rattle.rules.specs.Calls.{closingRefused}
-use Rattle.log.specs.Steps.{ending, onTender, refusal, dateOf, timeOf, closed, closing}
+use Rattle.log.specs.Steps.{onTender, refusal, dateOf, timeOf, closed, closing}
 use Rattle.tender.specs.declared.State.the-variants as state
 use Rattle.tender.specs.Viewed.{numberOf}
 use Rattle.steps.specs.Parts.{Parts, parts, tenderIn, viewed, withTender}
-use Rattle.steps.proofs.Taking.{takes-as, takes-ended, takes-skipped, no-tender, on-tender, takes-state}
+use Rattle.steps.proofs.Taking.{other-length, its-length, takes-as, takes-ended, takes-skipped, no-tender, on-tender, takes-state}
 use borrow.Author.Needs.{needs}
 use Rattle.steps.proofs.fields.closing.Statement.{statement}
 use Rattle.steps.proofs.fields.closing.Tie as tie
@@ -22,30 +21,23 @@ use Rattle.steps.proofs.fields.closing.Tie as tie
 with-change-requires : tie.Need-with-change-requires
 with-change-requires c κs = search needs
 
--- a field of another length, and one of its length
-ends : (s : List ℕ) (p : Parts) → (length s ≡ 14 → ⊥) → ending (viewed p) ≡ closing (viewed p) s
-unfolding closing
-ends s p h = sym (rw (ne-eqb (length s) 14 h) refl)
-
-calls : (s : List ℕ) (p : Parts) → length s ≡ 14 → onTender (viewed p) (closed s) ≡ closing (viewed p) s
-unfolding closing
-calls s p h = sym (rw (eq-eqb (length s) 14 h) refl)
-
 returns : tie.Need-returns
+unfolding closing
 returns c codes n book g =
     let a = c .before .before .before .before .args in
     let p = parts (a .opened) codes n (a .state) (a .terms) book in
-    takes-as (ends (now (a .s)) p (c .before .if1 .taken)) (takes-ended p g (now (a .s)) (now (a .space)) (c .with-change .result) (c .with-change .ensures .1) (c .with-change .ensures .0))
+    takes-as (other-length 14 (closed (now (a .s))) (viewed p) (now (a .s)) (c .before .if1 .taken)) (takes-ended p g (now (a .s)) (now (a .space)) (c .with-change .result) (c .with-change .ensures .1) (c .with-change .ensures .0))
 
 with-change-requires-2 : tie.Need-with-change-requires-2
 with-change-requires-2 c κs = search needs
 
 returns-2 : tie.Need-returns-2
+unfolding closing
 returns-2 c codes n book g =
     let a = c .before .before .before .before .before .args in
     let s = now (a .s) in
     let p = parts (a .opened) codes n (a .state) (a .terms) book in
-    takes-as (no-tender p (closed s) (not-true _ (c .before .if2 .taken)) ∙ calls s p (c .before .before .if1 .left)) (takes-skipped p g s (now (a .space)) (c .with-change2 .result) (c .with-change2 .ensures .1) (c .with-change2 .ensures .0))
+    takes-as (no-tender p (closed s) (not-true _ (c .before .if2 .taken)) ∙ its-length 14 (closed s) (viewed p) s (c .before .before .if1 .left)) (takes-skipped p g s (now (a .space)) (c .with-change2 .result) (c .with-change2 .ensures .1) (c .with-change2 .ensures .0))
 
 date-of-requires : tie.Need-date-of-requires
 date-of-requires c κs = search needs
@@ -69,6 +61,7 @@ unfolding rules.close
 called s p l e o = ap (λ (x : Option ℕ). (withTender p (unlessRefused x (tenderIn p) (rules.inState rules.Closed (tenderIn p))), refusal x)) e ∙ on-tender p (closed s) o
 
 returns-3 : tie.Need-returns-3
+unfolding closing
 returns-3 c codes n book g =
     let w = c .before .before .put-into in
     let a = c .before .before .before .before .before .before .before .before .before .before .before .args in
@@ -77,7 +70,7 @@ returns-3 c codes n book g =
     let l = numberOf (c .before .before .before .before .close-refusal .result) in
     let o = not-false _ (c .before .before .before .before .before .before .before .if2 .left) in
     let number : l ≡ closingRefused (tenderIn p) (dateOf s) (timeOf s) = c .before .before .before .before .close-refusal .ensures book ∙ ap₂ (closingRefused (tenderIn p)) (c .before .before .before .before .before .before .date-of .ensures) (c .before .before .before .before .before .time-of .ensures) in
-    takes-as (called s p l number o ∙ calls s p (c .before .before .before .before .before .before .before .before .if1 .left)) (takes-state p g s (now (a .space)) (w .result) state.Closed l (refusal l) (w .last .1 .1 .0) o (w .ensures .1) (w .ensures .0))
+    takes-as (called s p l number o ∙ its-length 14 (closed s) (viewed p) s (c .before .before .before .before .before .before .before .before .if1 .left)) (takes-state p g s (now (a .space)) (w .result) state.Closed l (refusal l) (w .last .1 .1 .0) o (w .ensures .1) (w .ensures .0))
 
 pub closing-spec : {M : Type 1} → statement M
 closing-spec =

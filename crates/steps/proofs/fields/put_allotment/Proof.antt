@@ -18,9 +18,10 @@ use Rattle.tender.specs.declared.Tender.{Tender}
 use Rattle.tender.specs.declared.State.the-variants as state
 use Rattle.tender.specs.Viewed as tender
 use Rattle.tender.specs.Viewed.{numberOf, tenderOf}
+use Rattle.tender.proofs.Allotting.{lent-length, lent-again}
 use Rattle.tender.proofs.Conditions.{kept-old, none-of}
 use Rattle.steps.specs.declared.Change.the-variants as change
-use Rattle.steps.proofs.Awarding.{lines-refused, lines-awarded, awards-told, lent-again, lent-length}
+use Rattle.steps.proofs.Awarding.{lines-refused, lines-awarded, awards-told}
 use borrow.Author.Needs.{needs}
 use Rattle.steps.proofs.fields.put_allotment.Statement.{statement}
 use Rattle.steps.proofs.fields.put_allotment.Tie as tie

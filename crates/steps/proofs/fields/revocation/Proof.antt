@@ -1,20 +1,19 @@
 -- `steps::fields::revocation` meets its contract. Assumes nothing.
-use mathlib.Core.Path.{_≡_, refl, sym, ap, _∙_}
+use mathlib.Core.Path.{_≡_, ap, _∙_}
 use mathlib.Core.Bool.{true}
 use mathlib.Core.List.{List}
 use mathlib.Core.Option.{Option}
 use Prim.Native.Nat.{ℕ}
 use denote.Ref.{now}
-use lib.ListN.{length}
-use borrow.Author.Tests.{eq-eqb, ne-eqb, not-true, not-false}
+use borrow.Author.Tests.{not-true, not-false}
 use Rattle.envelope.specs.Refusals.{unlessRefused}
 use Rattle.rules.specs.Calls as rules
 use Rattle.rules.specs.Calls.{revokingRefused}
-use Rattle.log.specs.Steps.{ending, onTender, refusal, revoked, revocation}
+use Rattle.log.specs.Steps.{onTender, refusal, revoked, revocation}
 use Rattle.tender.specs.declared.State.the-variants as state
 use Rattle.tender.specs.Viewed.{numberOf}
 use Rattle.steps.specs.Parts.{Parts, parts, tenderIn, viewed, withTender}
-use Rattle.steps.proofs.Taking.{takes-as, takes-ended, takes-skipped, no-tender, on-tender, takes-state}
+use Rattle.steps.proofs.Taking.{other-length, its-length, takes-as, takes-ended, takes-skipped, no-tender, on-tender, takes-state}
 use borrow.Author.Needs.{needs}
 use Rattle.steps.proofs.fields.revocation.Statement.{statement}
 use Rattle.steps.proofs.fields.revocation.Tie as tie
@@ -22,30 +21,23 @@ use Rattle.steps.proofs.fields.revocation.Tie as tie
 with-change-requires : tie.Need-with-change-requires
 with-change-requires c κs = search needs
 
--- a field of another length, and one of its length
-ends : (s : List ℕ) (p : Parts) → (length s ≡ 0 → ⊥) → ending (viewed p) ≡ revocation (viewed p) s
-unfolding revocation
-ends s p h = sym (rw (ne-eqb (length s) 0 h) refl)
-
-calls : (s : List ℕ) (p : Parts) → length s ≡ 0 → onTender (viewed p) revoked ≡ revocation (viewed p) s
-unfolding revocation
-calls s p h = sym (rw (eq-eqb (length s) 0 h) refl)
-
 returns : tie.Need-returns
+unfolding revocation
 returns c codes n terms book g =
     let a = c .before .before .before .before .args in
     let p = parts (a .opened) codes n (a .state) terms book in
-    takes-as (ends (now (a .s)) p (c .before .if1 .taken)) (takes-ended p g (now (a .s)) (now (a .space)) (c .with-change .result) (c .with-change .ensures .1) (c .with-change .ensures .0))
+    takes-as (other-length 0 revoked (viewed p) (now (a .s)) (c .before .if1 .taken)) (takes-ended p g (now (a .s)) (now (a .space)) (c .with-change .result) (c .with-change .ensures .1) (c .with-change .ensures .0))
 
 with-change-requires-2 : tie.Need-with-change-requires-2
 with-change-requires-2 c κs = search needs
 
 returns-2 : tie.Need-returns-2
+unfolding revocation
 returns-2 c codes n terms book g =
     let a = c .before .before .before .before .before .args in
     let s = now (a .s) in
     let p = parts (a .opened) codes n (a .state) terms book in
-    takes-as (no-tender p revoked (not-true _ (c .before .if2 .taken)) ∙ calls s p (c .before .before .if1 .left)) (takes-skipped p g s (now (a .space)) (c .with-change2 .result) (c .with-change2 .ensures .1) (c .with-change2 .ensures .0))
+    takes-as (no-tender p revoked (not-true _ (c .before .if2 .taken)) ∙ its-length 0 revoked (viewed p) s (c .before .before .if1 .left)) (takes-skipped p g s (now (a .space)) (c .with-change2 .result) (c .with-change2 .ensures .1) (c .with-change2 .ensures .0))
 
 revoke-refusal-requires : tie.Need-revoke-refusal-requires
 revoke-refusal-requires c κs = search needs
@@ -63,6 +55,7 @@ unfolding rules.revoke
 called s p l e o = ap (λ (x : Option ℕ). (withTender p (unlessRefused x (tenderIn p) (rules.inState rules.Revoked (tenderIn p))), refusal x)) e ∙ on-tender p revoked o
 
 returns-3 : tie.Need-returns-3
+unfolding revocation
 returns-3 c codes n terms book g =
     let w = c .before .before .put-into in
     let a = c .before .before .before .before .before .before .before .before .before .args in
@@ -71,7 +64,7 @@ returns-3 c codes n terms book g =
     let l = numberOf (c .before .before .before .before .revoke-refusal .result) in
     let o = not-false _ (c .before .before .before .before .before .if2 .left) in
     let number : l ≡ revokingRefused (tenderIn p) = c .before .before .before .before .revoke-refusal .ensures terms book in
-    takes-as (called s p l number o ∙ calls s p (c .before .before .before .before .before .before .if1 .left)) (takes-state p g s (now (a .space)) (w .result) state.Revoked l (refusal l) (w .last .1 .1 .0) o (w .ensures .1) (w .ensures .0))
+    takes-as (called s p l number o ∙ its-length 0 revoked (viewed p) s (c .before .before .before .before .before .before .if1 .left)) (takes-state p g s (now (a .space)) (w .result) state.Revoked l (refusal l) (w .last .1 .1 .0) o (w .ensures .1) (w .ensures .0))
 
 pub revocation-spec : {M : Type 1} → statement M
 revocation-spec =

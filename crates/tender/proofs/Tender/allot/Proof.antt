@@ -1,14 +1,11 @@
 -- `tender::Tender::allot` meets its contract. Assumes nothing.
 use mathlib.Core.Path.{_≡_, ap, _∙_}
-use mathlib.Core.List.{List}
 use Prim.Native.Nat.{ℕ, _*_, _-_, _≤_}
-use native.Mathlib.Nat.{sub-zero}
 use native.Mathlib.Omega.{arith}
-use lib.ListN.{length, take, length-replicate}
-use lib.Seq.{length-take-le}
+use lib.ListN.{length, length-replicate}
 use Rattle.book.specs.Viewed.{upTo64}
 use Rattle.book.proofs.Empty.{upTo64-small}
-use Rattle.tender.proofs.Allotting.{allots}
+use Rattle.tender.proofs.Allotting.{lent-length, allots}
 use borrow.Author.Needs.{needs}
 use Rattle.tender.proofs.Tender.allot.Statement.{statement}
 use Rattle.tender.proofs.Tender.allot.Tie as tie
@@ -50,10 +47,6 @@ part-awards-start c = search needs
 part-awards-end : tie.Need-part-awards-end
 part-awards-end c = let e = few (c .before .before .before) in let r = room (c .before) in omega (arith, e, r)
 
--- as much is lent as there are places
-lent : (l : List ℕ) (n k : ℕ) → n ≡ 10 * k → n ≤ length l → length (take (n - 0) l) ≡ 10 * k
-lent l n k e h = ap (λ (m : ℕ). length (take m l)) (sub-zero n) ∙ length-take-le n l h ∙ e
-
 allot-book-requires : tie.Need-allot-book-requires
 allot-book-requires c κs =
     let u = c .before .before .before .before in
@@ -61,7 +54,7 @@ allot-book-requires c κs =
     let r = room (c .before .before) in
     let n = 10 * u .up-to-64 .result in
     let q : n ≡ 10 * upTo64 (u .before .before .before .args .self .book .n) = ap (λ (k : ℕ). 10 * k) (u .up-to-64 .ensures) in
-    (lent (c .before .before .before .no-rates .result) n _ q (omega (arith, e, c .before .before .before .no-rates .ensures)), lent (c .before .before .no-amounts .result) n _ q (omega (arith, e, r)))
+    (lent-length (c .before .before .before .no-rates .result) n (omega (arith, e, c .before .before .before .no-rates .ensures)) ∙ q, lent-length (c .before .before .no-amounts .result) n (omega (arith, e, r)) ∙ q)
 
 in-state-unless-requires : tie.Need-in-state-unless-requires
 in-state-unless-requires c κs = search needs
@@ -77,7 +70,7 @@ returns c =
     let e = few u in
     let s = c .before .in-state-unless in
     allots (start .args .self) (start .pre) (a .result) (s .result) n (a .last .1 .1 .1 .1 .0) (zeros .result) (zeros .ensures) e
-    (a .kept .1 .1 .1 .1 .0 ∙ ap (λ (m : ℕ). length (take m (zeros .result))) (sub-zero n) ∙ length-take-le n (zeros .result) (omega (arith, e, r)))
+    (a .kept .1 .1 .1 .1 .0 ∙ lent-length (zeros .result) n (omega (arith, e, r)))
     (a .ensures .1) (s .ensures .1) (s .ensures .0)
 
 pub allot-spec : {M : Type 1} → statement M

@@ -2,14 +2,13 @@
 use mathlib.Core.Path.{_≡_, sym, ap, _∙_}
 use mathlib.Core.List.{List, _++_}
 use Prim.Native.Nat.{ℕ, _-_}
-use native.Mathlib.Nat.{sub-zero}
 use native.Mathlib.Omega.{arith}
 use denote.Ref.{now}
 use lib.ListN.{length, take, drop, length-replicate, length-append}
-use lib.Seq.{take-at, length-take-le}
 use Rattle.bids.specs.Columns.{bidsOf}
 use Rattle.book.proofs.Empty.{upTo64-small}
 use borrow.Author.Needs.{needs}
+use Rattle.tender.proofs.Allotting.{lent-length, lent-again}
 use Rattle.tender.proofs.internal.allot_book.Statement.{statement}
 use Rattle.tender.proofs.internal.allot_book.Tie as tie
 
@@ -46,14 +45,10 @@ written c =
     let start = c .before .before .before .before .before .before in
     let few = upTo64-small (start .args .book .n) .0 in
     let full = room (c .before .before .before) in
-    c .in-order .kept .1 .1 .0
-    ∙ ap (λ (k : ℕ). length (take k (c .before .before .before .no-amounts .result))) (sub-zero (length (now (start .args .rates))))
-    ∙ length-take-le (length (now (start .args .rates))) (c .before .before .before .no-amounts .result) (omega (arith, full, few, start .pre .0))
+    c .in-order .kept .1 .1 .0 ∙ lent-length (c .before .before .before .no-amounts .result) (length (now (start .args .rates))) (omega (arith, full, few, start .pre .0))
 
 lent : (c : tie.After-in-order) (rest : List ℕ) → take (length (now (c .before .before .before .before .before .before .args .rates)) - 0) (c .in-order .last .1 .1 .0 ++ rest) ≡ c .in-order .last .1 .1 .0
-lent c rest =
-    let n = length (now (c .before .before .before .before .before .before .args .rates)) in
-    ap (λ (k : ℕ). take k (c .in-order .last .1 .1 .0 ++ rest)) (sub-zero n) ∙ take-at (c .in-order .last .1 .1 .0) rest n (written c)
+lent c rest = lent-again (c .in-order .last .1 .1 .0) rest (length (now (c .before .before .before .before .before .before .args .rates))) (written c)
 
 part-allot-bids-end : tie.Need-part-allot-bids-end
 part-allot-bids-end c =
