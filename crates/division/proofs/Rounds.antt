@@ -1,16 +1,16 @@
 -- The share division's numbers: an amount's leading zeros and its binary length make 64, and every round stays within 64 bits. Assumes nothing.
 use mathlib.Core.Path.{_≡_, refl, sym, ap, _∙_, subst}
-use mathlib.Core.Bool.{Bool, true, false}
-use Prim.Native.Nat.{ℕ, zero, suc, _+_, _-_, _*_, _/_, _^_, _≤_, _<_}
-use native.Mathlib.Nat.{add-zero, add-suc, mul-comm, mul-add-div-right, mul-le-mul-left, mul-le-mul-right, mod-lt, div-eq-of-lt, div-le-of-le-mul, div-le-self, not-suc-le-zero}
+use mathlib.Core.Bool.{Bool, true, false, cond}
+use Prim.Native.Nat.{ℕ, zero, suc, _+_, _-_, _*_, _/_, _%_, _^_, _≤_, _<_}
+use native.Mathlib.Nat.{add-zero, add-suc, mul-comm, mul-add-div-right, mul-le-mul-left, mul-le-mul-right, mod-lt, div-eq-of-lt, div-le-of-le-mul, div-le-self, div-add-mod', not-suc-le-zero}
 use native.Mathlib.Numerals.{add-one}
 use native.Mathlib.Omega.{arith}
 use lib.Arith.{half-le, lt-one}
 use lib.Count.{leadingZeros}
-use lib.Dec.{leb}
+use lib.Dec.{leb, ltb}
 use lib.Pow.{shr-lt}
 use mir.Val.{boolByte}
-use borrow.Author.Tests.{leb-true, leb-false}
+use borrow.Author.Tests.{leb-true, leb-false, ltb-true, ltb-false}
 use Rattle.rules.specs.Allotment.{lengthIn, binaryLength, firstDigits, Division, divisionAt}
 use Rattle.rules.specs.Theorems.{nextRound}
 use Rattle.rules.proofs.Division.{digitAfter, digit-below, next-round}
@@ -62,6 +62,21 @@ times-is t e h = go (leb e t) refl (leb (2 * e) t) refl
 pub at-most-once : (t : Bool) → boolByte t ≤ 1
 at-most-once true = omega arith
 at-most-once false = omega arith
+
+-- ── what is left ──
+
+remainder-is : (t e q : ℕ) → q * e ≤ t → t < q * e + e → t - q * e ≡ t % e
+remainder-is t e q h k = omega (arith, ap (λ (x : ℕ). x * e) (quotient-is t e q h k), div-add-mod' t e)
+
+-- of the differences once and twice, wrapped, the one that is left: a difference that wraps is not below t
+pub left-is : (t e once twice : ℕ) → t < 3 * e → e < 10 ^ 18 → once < 2 ^ 64 → twice < 2 ^ 64 → (once + e) % 2 ^ 64 ≡ t → (twice + 2 * e) % 2 ^ 64 ≡ t
+    → cond (leb (2 * e) t) twice (cond (ltb once t) once t) ≡ t % e
+left-is t e once twice h k f g o w = go (leb (2 * e) t) refl (ltb once t) refl
+  where
+    go : (a : Bool) → leb (2 * e) t ≡ a → (b : Bool) → ltb once t ≡ b → cond a twice (cond b once t) ≡ t % e
+    go true ea b eb = omega (arith, leb-true, remainder-is t e 2 (omega (arith, leb-true)) (omega arith))
+    go false ea true eb = omega (arith, ltb-true, remainder-is t e 1 (omega (arith, ltb-true)) (omega (arith, leb-false)))
+    go false ea false eb = omega (arith, ltb-false, remainder-is t e 0 (omega arith) (omega (arith, ltb-false)))
 
 -- ── a round ──
 

@@ -4,6 +4,7 @@ use crate::Division;
 use crate::binary_length;
 use places::Amount;
 ghost use mathlib.Core.Path.{_≡_};
+ghost use mathlib.Core.Bool.{cond};
 ghost use Prim.Native.Nat.{_+_, _*_, _/_, _%_, _^_, _<_};
 ghost use Rattle.rules.specs.Allotment.{binaryLength, divisionAt, division};
 ghost use Rattle.division.specs.Rounds.{viewed};
@@ -17,13 +18,25 @@ fn times(t: u64, e: u64) -> u64
     (e <= t) as u64 + (2 * e <= t) as u64
 }
 
-// What of t is left when e is taken out of it as often as it goes in.
+// One of two numbers that are both computed already, so that the choice needs no branch.
+fn chosen(condition: bool, a: u64, b: u64) -> u64
+    ensures { λ r. ⌜ r ≡ cond condition a b ⌝ }
+{
+    if condition {
+        return a;
+    }
+    b
+}
+
+// What of t is left when e is taken out of it as often as it goes in. Whether it goes in once is asked as `once < t`, because the compiler makes a branch of `e <= t`.
 fn left(t: u64, e: u64) -> u64
     requires { ⌜ t < 3 * e ⌝ }
     requires { ⌜ e < 10 ^ 18 ⌝ }
     ensures { λ r. ⌜ r ≡ t % e ⌝ }
 {
-    t - times(t, e) * e
+    let once = std::num::wrapping_sub_u64(t, e);
+    let twice = std::num::wrapping_sub_u64(t, 2 * e);
+    chosen(2 * e <= t, twice, chosen(once < t, once, t))
 }
 
 // One round, which takes in the next binary digit of a, highest first.

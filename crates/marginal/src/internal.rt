@@ -101,14 +101,14 @@ fn walk(o: Offer, rates: &[u32], amounts: &[u64], keys: &mut [u64]) -> MarginalR
     first_reaching(o, rates, amounts, keys)
 }
 
-// The marginal rate of the bids.
-pub fn marginal_rate(o: Offer, rates: &[u32], amounts: &[u64]) -> MarginalRate
+// The marginal rate of the bids; the space is for their keys, and what it holds afterwards is left open.
+pub fn marginal_rate(o: Offer, rates: &[u32], amounts: &[u64], keys: &mut [u64]) -> MarginalRate
     requires { ⌜ length (now rates) ≡ length (now amounts) ⌝ }
     requires { ⌜ length (now amounts) ≤ 640 ⌝ }
+    requires { ⌜ length (now amounts) ≤ length (now keys) ⌝ }
     requires { ⌜ total (bidsOf (now rates) (now amounts)) ≤ mostBids ⌝ }
     ensures { λ r. ⌜ rateIn r ≡ marginalRate (viewed o) (bidsOf (now (rates .entry)) (now (amounts .entry))) ⌝ }
 {
-    let mut keys = [0u64; 640];
-    let n = keys_in(o, rates, amounts, &mut keys);
+    let n = keys_in(o, rates, amounts, keys);
     walk(o, rates, amounts, &mut keys[0..n])
 }

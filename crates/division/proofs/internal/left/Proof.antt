@@ -1,27 +1,48 @@
 -- `division::internal::left` meets its contract. Assumes nothing.
 use borrow.Author.Needs.{needs}
-use mathlib.Core.Path.{_≡_, ap}
-use Prim.Native.Nat.{ℕ, _*_, _/_}
-use native.Mathlib.Nat.{div-add-mod'}
-use native.Mathlib.Omega.{arith}
+use mathlib.Core.Path.{_∙_, ap}
+use mathlib.Core.Bool.{cond}
+use Prim.Native.Nat.{_*_}
+use lib.Dec.{leb}
+use Rattle.division.proofs.Rounds.{left-is}
 use Rattle.division.proofs.internal.left.Statement.{statement}
 use Rattle.division.proofs.internal.left.Tie as tie
 
-times-requires : tie.Need-times-requires
-times-requires c κs = search needs
+wrapping-sub-u64-requires : tie.Need-wrapping-sub-u64-requires
+wrapping-sub-u64-requires c κs = search needs
 
--- what is taken from t
-taken : (c : tie.After-times) → c .times .result * c .before .args .e ≡ c .before .args .t / c .before .args .e * c .before .args .e
-taken c = ap (λ (x : ℕ). x * c .before .args .e) (c .times .ensures)
+mul-wrapping-sub-u64 : tie.Need-mul-wrapping-sub-u64
+mul-wrapping-sub-u64 c = search needs
 
-mul-result : tie.Need-mul-result
-mul-result c = omega (arith, taken c, div-add-mod' (c .before .args .t) (c .before .args .e))
+wrapping-sub-u64-requires-2 : tie.Need-wrapping-sub-u64-requires-2
+wrapping-sub-u64-requires-2 c κs = search needs
 
-sub-result : tie.Need-sub-result
-sub-result c = omega (arith, taken c, div-add-mod' (c .before .args .t) (c .before .args .e))
+mul-chosen : tie.Need-mul-chosen
+mul-chosen c = search needs
+
+chosen-requires : tie.Need-chosen-requires
+chosen-requires c κs = search needs
+
+chosen-requires-2 : tie.Need-chosen-requires-2
+chosen-requires-2 c κs = search needs
 
 returns : tie.Need-returns
-returns c = omega (arith, taken c, div-add-mod' (c .before .args .t) (c .before .args .e))
+returns c =
+    let start = c .before .before .before .before in
+    let a = start .args in
+    let once = c .before .before .before .wrapping-sub-u64 in
+    let twice = c .before .before .wrapping-sub-u642 in
+    c .chosen2 .ensures ∙ ap (cond (leb (2 * a .e) (a .t)) (twice .result)) (c .before .chosen .ensures)
+    ∙ left-is (a .t) (a .e) (once .result) (twice .result) (start .pre .0) (start .pre .1) (once .ok) (twice .ok) (once .ensures) (twice .ensures)
 
 pub left-spec : {M : Type 1} → statement M
-left-spec = tie.close (tie.spec times-requires mul-result sub-result returns)
+left-spec =
+    tie.close
+    (tie.spec
+    wrapping-sub-u64-requires
+    mul-wrapping-sub-u64
+    wrapping-sub-u64-requires-2
+    mul-chosen
+    chosen-requires
+    chosen-requires-2
+    returns)

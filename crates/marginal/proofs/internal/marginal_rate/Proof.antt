@@ -4,23 +4,23 @@ use native.Mathlib.Nat.{sub-zero}
 use Rattle.marginal.proofs.internal.marginal_rate.Statement.{statement}
 use Rattle.marginal.proofs.internal.marginal_rate.Tie as tie
 
-slice-aggregate-keys-in : tie.Need-slice-aggregate-keys-in
-slice-aggregate-keys-in c = search needs
-
 keys-in-requires : tie.Need-keys-in-requires
 keys-in-requires c κs = search needs
 
 sub-walk : tie.Need-sub-walk
 sub-walk c = search needs
 
-part-keys-start : tie.Need-part-keys-start
-part-keys-start c = search needs
+part-walk-start : tie.Need-part-walk-start
+part-walk-start c = search needs
 
-part-keys-end : tie.Need-part-keys-end
-part-keys-end c = search needs
+part-walk-end : tie.Need-part-walk-end
+part-walk-end c = search needs
 
 walk-requires : tie.Need-walk-requires
-walk-requires c κs = (search needs, (search needs, rw sub-zero (c .before .before .keys-in .ensures .1)))
+walk-requires c κs = (search needs, (search needs, rw sub-zero (c .before .before .before .keys-in .ensures .1)))
+
+same-length : tie.Need-same-length
+same-length c = search needs
 
 returns : tie.Need-returns
 returns c = search needs
@@ -29,10 +29,10 @@ pub marginal-rate-spec : {M : Type 1} → statement M
 marginal-rate-spec =
     tie.close
     (tie.spec
-    slice-aggregate-keys-in
     keys-in-requires
     sub-walk
-    part-keys-start
-    part-keys-end
+    part-walk-start
+    part-walk-end
     walk-requires
+    same-length
     returns)
