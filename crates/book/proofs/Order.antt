@@ -1,9 +1,10 @@
--- The places of the arrays are the bids of the entries, in book order, and are written as numbers. Assumes nothing.
+-- The places of the arrays are the bids of the entries, in book order, in columns of numbers too. Assumes nothing.
 use mathlib.Core.Path.{_≡_, refl, sym, ap, ap₂, _∙_}
-use mathlib.Core.List.{List, [], _∷_, _++_, map, append-nil}
+use mathlib.Core.Bool.{Bool}
+use mathlib.Core.List.{List, [], _∷_, _++_, map}
 use Prim.Native.Nat.{ℕ, zero, suc, _+_, _*_, _≤_, _<_}
 use native.Mathlib.Omega.{arith}
-use lib.ListN.{length, getD, take, drop, drop-of-length-le}
+use lib.ListN.{length, getD, take, drop, length-map}
 use lib.Seq.{drop-cons}
 use Rattle.places.specs.declared.Rate.{Rate}
 use Rattle.places.specs.declared.Amount.{Amount}
@@ -12,7 +13,7 @@ use Rattle.rules.specs.Calls.{bidsInBook}
 use Rattle.bids.specs.Columns.{bidsFrom, bidsOf, cents}
 use Rattle.bids.proofs.Columns.{bids-add, bids-shifted}
 use Rattle.book.specs.declared.Book.{Book}
-use Rattle.book.specs.Viewed.{entryAt, entriesFrom, upTo64, viewed, codesIn}
+use Rattle.book.specs.Viewed.{hundredThousandths, rateOf, amountOf, columnsOf, bookOf, bookIn, Lends, entryAt, entriesFrom, upTo64, viewed, codesIn}
 use Rattle.book.proofs.Empty.{upTo64-small}
 
 bids-nothing : (rs : List Rate) (xs : List Amount) (i : ℕ) → bidsFrom rs xs i (10 * zero) ≡ []
@@ -49,9 +50,9 @@ pub codes-viewed : (b : Book) → length (b .codes) ≡ 64 → codesIn (viewed b
 unfolding viewed
 codes-viewed b h = codes-first b 0 (upTo64 (b .n)) (omega (arith, h, upTo64-small (b .n) .0))
 
--- a rate as its number, in hundred-thousandths of a percent
-abbrev pub hundredThousandths : Rate → ℕ
-hundredThousandths r = r .0
+-- the codes of the entries of a book that lends its codes
+pub codes-lent : {n : ℕ} {codes held : List ℕ} {has : List Bool} (b : Book) → Lends b n codes held has → length codes ≡ 64 → codesIn (viewed b) ≡ take (upTo64 n) codes
+codes-lent b l h = codes-viewed b (ap length (l .codes-are) ∙ h) ∙ ap₂ (λ (k : ℕ) (cs : List ℕ). take (upTo64 k) cs) (l .n-is) (l .codes-are)
 
 -- the first n places as rates and amounts side by side
 side-by-side : (n : ℕ) (rs : List Rate) (xs : List Amount) → n ≤ length rs → n ≤ length xs → bidsOf (take n (map hundredThousandths rs)) (take n (map cents xs)) ≡ bidsFrom rs xs 0 n
@@ -61,22 +62,35 @@ side-by-side (suc n) [] xs h k = absurd (let z : _≡_ {A = ℕ} 0 1 = omega ari
 side-by-side (suc n) (r ∷ rs) [] h k = absurd (let z : _≡_ {A = ℕ} 0 1 = omega arith in omega arith)
 side-by-side (suc n) (r ∷ rs) (x ∷ xs) h k = ap (λ (l : List Bid). record { rate = r .0; amount = x .0 } ∷ l) (side-by-side n rs xs (omega arith) (omega arith) ∙ sym (bids-shifted r rs x xs 0 n))
 
--- the element at an index, as its number
-pub number-at : {A : Type 0} (number : A → ℕ) (l : List A) (i : ℕ) (d : A) (z : ℕ) → i < length l → number (getD l i d) ≡ getD (map number l) i z
-number-at number [] i d z h = absurd (let y : _≡_ {A = ℕ} 0 1 = omega arith in omega arith)
-number-at number (x ∷ l) zero d z h = refl
-number-at number (x ∷ l) (suc i) d z h = number-at number l i d z (omega arith)
+-- what becomes of the element at an index
+pub mapped-at : {A B : Type 0} (f : A → B) (l : List A) (i : ℕ) (d : A) (z : B) → i < length l → f (getD l i d) ≡ getD (map f l) i z
+mapped-at f [] i d z h = absurd (let y : _≡_ {A = ℕ} 0 1 = omega arith in omega arith)
+mapped-at f (x ∷ l) zero d z h = refl
+mapped-at f (x ∷ l) (suc i) d z h = mapped-at f l i d z (omega arith)
 
--- all places written
-pub all-written : (b : Book) (rates₀ amounts₀ rates amounts : List ℕ) (i : ℕ) → length (b .rates) ≡ 640 → length (b .amounts) ≡ 640 → i ≡ 10 * upTo64 (b .n)
-    → length rates₀ ≡ 10 * upTo64 (b .n) → length amounts₀ ≡ 10 * upTo64 (b .n)
-    → rates ≡ take i (map hundredThousandths (b .rates)) ++ drop i rates₀ → amounts ≡ take i (map cents (b .amounts)) ++ drop i amounts₀ → bidsOf rates amounts ≡ bidsInBook (viewed b)
-all-written b rates₀ amounts₀ rates amounts i hr hx e kr kx er ex =
+-- the bids of a book are the first places of its columns
+pub bids-in-columns : (b : Book) → length (b .rates) ≡ 640 → length (b .amounts) ≡ 640
+    → bidsOf (take (10 * upTo64 (b .n)) (columnsOf b .rates)) (take (10 * upTo64 (b .n)) (columnsOf b .amounts)) ≡ bidsInBook (viewed b)
+bids-in-columns b hr hx =
     let s = upTo64-small (b .n) .0 in
-    ap₂ bidsOf (er ∙ whole (take i (map hundredThousandths (b .rates))) rates₀ (omega (arith, e, kr))) (ex ∙ whole (take i (map cents (b .amounts))) amounts₀ (omega (arith, e, kx)))
-    ∙ side-by-side i (b .rates) (b .amounts) (omega (arith, e, s, hr)) (omega (arith, e, s, hx))
-    ∙ ap (bidsFrom (b .rates) (b .amounts) 0) e
-    ∙ sym (bids-viewed b)
-  where
-    whole : (l d : List ℕ) → length d ≤ i → l ++ drop i d ≡ l
-    whole l d h = ap (λ (x : List ℕ). l ++ x) (drop-of-length-le d {i = i} h) ∙ append-nil l
+    side-by-side (10 * upTo64 (b .n)) (b .rates) (b .amounts) (omega (arith, s, hr)) (omega (arith, s, hx)) ∙ sym (bids-viewed b)
+
+-- a list there and back is what it was
+there-and-back : {A B : Type 0} (back : B → A) (there : A → B) → ((x : A) → back (there x) ≡ x) → (l : List A) → map back (map there l) ≡ l
+there-and-back back there h [] = refl
+there-and-back {A} back there h (x ∷ l) = ap₂ (λ (y : A) (ys : List A). y ∷ ys) (h x) (there-and-back back there h l)
+
+-- the book of a book's columns is that book
+pub columns-back : (b : Book) → bookIn (columnsOf b) ≡ b
+columns-back b =
+    let rates = there-and-back rateOf hundredThousandths (λ v. refl) (b .rates) in
+    let amounts = there-and-back amountOf cents (λ v. refl) (b .amounts) in
+    λ i. record { codes = b .codes; n = b .n; held = b .held; has = b .has; rates = rates i; amounts = amounts i }
+
+-- the same of columns that are lent
+pub bids-lent : (n : ℕ) (codes held : List ℕ) (has : List Bool) (rates amounts : List ℕ) → length rates ≡ 640 → length amounts ≡ 640
+    → bidsOf (take (10 * upTo64 n) rates) (take (10 * upTo64 n) amounts) ≡ bidsInBook (viewed (bookOf n codes held has rates amounts))
+bids-lent n codes held has rates amounts hr hx =
+    let k = 10 * upTo64 n in
+    ap₂ (λ (r x : List ℕ). bidsOf (take k r) (take k x)) (sym (there-and-back hundredThousandths rateOf (λ x. refl) rates)) (sym (there-and-back cents amountOf (λ x. refl) amounts))
+    ∙ bids-in-columns (bookOf n codes held has rates amounts) (length-map rates rateOf ∙ hr) (length-map amounts amountOf ∙ hx)

@@ -2,21 +2,23 @@
 use mathlib.Core.Path.{_≡_, refl, sym, ap, ap₂, _∙_}
 use mathlib.Core.Logic.{_≢_}
 use mathlib.Core.Bool.{Bool, true, false}
-use mathlib.Core.List.{List, [], _∷_, _++_}
+use mathlib.Core.List.{List, [], _∷_, _++_, map}
 use mathlib.Core.Option.{some}
 use Prim.Native.Nat.{ℕ, zero, suc, _+_, _*_, _≤_, _<_}
 use native.Mathlib.Omega.{arith}
 use native.Mathlib.Nat.{add-zero}
 use native.Mathlib.Numerals.{add-one}
 use lib.Dec.{ltb}
-use lib.ListN.{length, getD, set, take, length-set}
+use lib.ListN.{length, getD, set, take, length-map, length-set}
 use lib.Seq.{sets, getD-set-same, getD-set-other, take-suc, length-take-le, take-all}
 use borrow.Author.Tests.{ltb-true, ltb-false}
 use Rattle.places.specs.declared.Rate.{Rate}
 use Rattle.places.specs.declared.Amount.{Amount}
 use Rattle.book.specs.declared.Book.{Book}
-use Rattle.bids.specs.Columns.{noRate, noAmount, bidsFrom}
-use Rattle.book.specs.Viewed.{heldAt, entryAt, entriesFrom, upTo64, viewed, replaced}
+use Rattle.book.specs.declared.Columns.{Columns}
+use Rattle.bids.specs.Columns.{noRate, noAmount, cents, bidsFrom}
+use Rattle.book.specs.Viewed.{hundredThousandths, rateOf, amountOf, bookIn, heldAt, entryAt, entriesFrom, upTo64, viewed, replaced}
+use Rattle.book.proofs.Order.{mapped-at}
 
 module _ {A : Type 0} where
   getD-sets-low : (l : List A) (i : ℕ) (vs : List A) (p : ℕ) (d : A) → p < i → getD (sets l i vs) p d ≡ getD l p d
@@ -86,21 +88,55 @@ timed b k t rs xs = record { codes = b .codes; n = b .n; held = set (b .held) k 
 abbrev pub stored : Book → ℕ → ℕ → List Rate → List Amount → Book
 stored b k t vs ws = timed b k t (sets (b .rates) (10 * k) vs) (sets (b .amounts) (10 * k) ws)
 
--- the arrays with other rates and amounts
-abbrev pub placed : Book → List Rate → List Amount → Book
-placed b rs xs = record { codes = b .codes; n = b .n; held = b .held; has = b .has; rates = rs; amounts = xs }
+-- columns with other rates and amounts
+abbrev pub placed : Columns → List ℕ → List ℕ → Columns
+placed c rs xs = record { codes = c .codes; n = c .n; held = c .held; has = c .has; rates = rs; amounts = xs }
+
+-- the first i of rates and of amounts stored as numbers
+abbrev pub placedTo : Columns → ℕ → ℕ → List Rate → List Amount → Columns
+placedTo c k i vs ws = placed c (sets (c .rates) (10 * k) (take i (map hundredThousandths vs))) (sets (c .amounts) (10 * k) (take i (map cents ws)))
 
 -- one place more stored
-pub one-placed : (b₀ b : Book) (k i : ℕ) (vs : List Rate) (ws : List Amount) (r : Rate) (x : Amount) → i < length vs → i < length ws
-    → b ≡ placed b₀ (sets (b₀ .rates) (10 * k) (take i vs)) (sets (b₀ .amounts) (10 * k) (take i ws))
-    → placed b (set (b .rates) (10 * k + i) (getD vs i r)) (set (b .amounts) (10 * k + i) (getD ws i x)) ≡ placed b₀ (sets (b₀ .rates) (10 * k) (take (i + 1) vs)) (sets (b₀ .amounts) (10 * k) (take (i + 1) ws))
-one-placed b₀ b k i vs ws r x hv hw e =
-    let rs = sets-more (b₀ .rates) (10 * k) vs (b .rates) i r hv (ap (λ (y : Book). y .rates) e) in
-    let xs = sets-more (b₀ .amounts) (10 * k) ws (b .amounts) i x hw (ap (λ (y : Book). y .amounts) e) in
+pub one-placed : (c₀ c : Columns) (k i : ℕ) (vs : List Rate) (ws : List Amount) → i < length vs → i < length ws → c ≡ placedTo c₀ k i vs ws
+    → placed c (set (c .rates) (10 * k + i) (hundredThousandths (getD vs i noRate))) (set (c .amounts) (10 * k + i) (cents (getD ws i noAmount))) ≡ placedTo c₀ k (i + 1) vs ws
+one-placed c₀ c k i vs ws hv hw e =
+    let rs =
+    ap (set (c .rates) (10 * k + i)) (mapped-at hundredThousandths vs i noRate 0 hv)
+    ∙ sets-more (c₀ .rates) (10 * k) (map hundredThousandths vs) (c .rates) i 0 (omega (arith, hv, length-map vs hundredThousandths)) (ap (λ (y : Columns). y .rates) e) in
+    let xs =
+    ap (set (c .amounts) (10 * k + i)) (mapped-at cents ws i noAmount 0 hw)
+    ∙ sets-more (c₀ .amounts) (10 * k) (map cents ws) (c .amounts) i 0 (omega (arith, hw, length-map ws cents)) (ap (λ (y : Columns). y .amounts) e) in
     λ j. record { codes = e j .codes; n = e j .n; held = e j .held; has = e j .has; rates = rs j; amounts = xs j }
+
+-- numbers stored, and what they stand for
+module _ {A : Type 0} (number : A → ℕ) (back : ℕ → A) (same : (v : A) → back (number v) ≡ v) where
+  back-set : (l : List ℕ) (i n : ℕ) → map back (set l i n) ≡ set (map back l) i (back n)
+  back-set [] i n = refl
+  back-set (x ∷ l) zero n = refl
+  back-set (x ∷ l) (suc i) n = ap (λ (y : List A). back x ∷ y) (back-set l i n)
+
+  back-sets : (l : List ℕ) (i : ℕ) (ns : List ℕ) → map back (sets l i ns) ≡ sets (map back l) i (map back ns)
+  back-sets l i [] = refl
+  back-sets l i (n ∷ ns) = back-sets (set l i n) (suc i) ns ∙ ap (λ (y : List A). sets y (suc i) (map back ns)) (back-set l i n)
+
+  back-taken : (i : ℕ) (vs : List A) → map back (take i (map number vs)) ≡ take i vs
+  back-taken zero vs = refl
+  back-taken (suc i) [] = refl
+  back-taken (suc i) (v ∷ vs) = ap₂ (λ (y : A) (ys : List A). y ∷ ys) (same v) (back-taken i vs)
+
+  stored-back : (l : List ℕ) (k i : ℕ) (vs : List A) → map back (sets l k (take i (map number vs))) ≡ sets (map back l) k (take i vs)
+  stored-back l k i vs = back-sets l k (take i (map number vs)) ∙ ap (sets (map back l) k) (back-taken i vs)
+
+-- the book of columns in which a time and places are stored
+pub book-placed : (c : Columns) (k t i : ℕ) (vs : List Rate) (ws : List Amount)
+    → bookIn (placedTo (record { codes = c .codes; n = c .n; held = set (c .held) k t; has = set (c .has) k true; rates = c .rates; amounts = c .amounts }) k i vs ws)
+    ≡ timed (bookIn c) k t (sets (bookIn c .rates) (10 * k) (take i vs)) (sets (bookIn c .amounts) (10 * k) (take i ws))
+book-placed c k t i vs ws =
+    ap₂ (timed (bookIn c) k t) (stored-back hundredThousandths rateOf (λ v. refl) (c .rates) (10 * k) i vs) (stored-back cents amountOf (λ w. refl) (c .amounts) (10 * k) i ws)
 
 -- the lengths that the arrays have by their types
 pub record Sized (b : Book) : Type 0 where
+  pub codes-length : length (b .codes) ≡ 64
   pub held-length : length (b .held) ≡ 64
   pub has-length : length (b .has) ≡ 64
   pub rates-length : length (b .rates) ≡ 640

@@ -1,17 +1,53 @@
 -- The arrays of a book as the entries of document 01, and what finding a code and holding a message mean for them. Assumes nothing.
+use mathlib.Core.Path.{_≡_}
 use mathlib.Core.Bool.{Bool, true, false, cond}
 use mathlib.Core.List.{List, [], _∷_, map}
 use mathlib.Core.Option.{Option, none, some}
 use Prim.Native.Nat.{ℕ, zero, suc, _*_}
 use lib.Dec.{eqb, ltb}
-use lib.ListN.{getD}
+use lib.ListN.{length, getD}
 use Rattle.rules.specs.Allotment.{Bid}
 use Rattle.rules.specs.Opening.{any}
-use Rattle.bids.specs.Columns.{bidsFrom}
+use Rattle.places.specs.declared.Rate.{Rate}
+use Rattle.places.specs.declared.Amount.{Amount}
+use Rattle.bids.specs.Columns.{bidsFrom, cents}
 use Rattle.rules.specs.Receiving.{Submission, Entry, takes, hold}
 use Rattle.book.specs.declared.Book.{Book}
+use Rattle.book.specs.declared.Columns.{Columns}
 use Rattle.book.specs.declared.Found.{Found}
 use Rattle.book.specs.declared.Found.the-variants.{At, Absent}
+
+-- a rate as its number, in hundred-thousandths of a percent, and back
+abbrev pub hundredThousandths : Rate → ℕ
+hundredThousandths r = r .0
+
+abbrev pub rateOf : ℕ → Rate
+rateOf n = record { 0 = n }
+
+abbrev pub amountOf : ℕ → Amount
+amountOf n = record { 0 = n }
+
+-- the columns of a book, and the book of columns
+abbrev pub columnsOf : Book → Columns
+columnsOf b = record { codes = b .codes; n = b .n; held = b .held; has = b .has; rates = map hundredThousandths (b .rates); amounts = map cents (b .amounts) }
+
+abbrev pub bookOf : ℕ → List ℕ → List ℕ → List Bool → List ℕ → List ℕ → Book
+bookOf n codes held has rates amounts = record { codes = codes; n = n; held = held; has = has; rates = map rateOf rates; amounts = map amountOf amounts }
+
+abbrev pub bookIn : Columns → Book
+bookIn c = bookOf (c .n) (c .codes) (c .held) (c .has) (c .rates) (c .amounts)
+
+-- codes, times and flags that a book lends, with the number of its codes, and the lengths that they have by their types
+pub record Lends (b : Book) (n : ℕ) (codes held : List ℕ) (has : List Bool) : Type 0 where
+  pub n-is : b .n ≡ n
+  pub codes-are : b .codes ≡ codes
+  pub held-are : b .held ≡ held
+  pub has-are : b .has ≡ has
+
+pub record Full (codes held : List ℕ) (has : List Bool) : Type 0 where
+  pub codes-length : length codes ≡ 64
+  pub held-length : length held ≡ 64
+  pub has-length : length has ≡ 64
 
 -- 'the reference time last accepted, or none'
 unfoldable pub heldAt : Book → ℕ → Option ℕ

@@ -1,23 +1,46 @@
-// One code's place in the book: whether it takes a message, and what it holds after one; and the bids of all codes in book order.
+// One code's place in the book: where it stands, whether it takes a message, and what it holds after one.
 use crate::Book;
+use crate::Found;
 use crate::up_to_64;
 use places::Amount;
 use places::Rate;
 ghost use mathlib.Core.Path.{_≡_};
-ghost use Prim.Native.Nat.{_*_, _<_};
+ghost use Prim.Native.Nat.{_<_};
 ghost use lib.ListN.{length};
-ghost use Rattle.rules.specs.Calls.{bidsInBook};
 ghost use Rattle.rules.specs.Receiving.{isAfter};
-ghost use Rattle.bids.specs.Columns.{bidsFrom, bidsOf};
-ghost use Rattle.book.specs.Viewed.{upTo64, viewed, heldAt, replaced};
+ghost use Rattle.bids.specs.Columns.{bidsFrom};
+ghost use Rattle.book.specs.declared.Book.{Book};
+ghost use Rattle.book.specs.Viewed.{viewed, findFrom, heldAt, replaced};
 
-// Whether nothing is held at an index, or a time before this one.
-pub fn takes_at(b: Book, at: usize, time: u64) -> bool
-    requires { ⌜ at < 64 ⌝ }
-    ensures { λ r. ⌜ r ≡ isAfter time (heldAt b at) ⌝ }
+// A code as a number of 64 bits.
+fn wide(c: u32) -> u64
+    ensures { λ r. ⌜ r ≡ c ⌝ }
 {
-    let has = b.has;
-    let held = b.held;
+    c as u64
+}
+
+// The first place where a code stands, of a book with these codes, so many of which are admitted.
+pub fn find_in(codes: &[u32], n: usize, code: u64) -> Found
+    requires { ⌜ length (now codes) ≡ 64 ⌝ }
+    ensures { λ r. ⌜ ((b : Book) → b .codes ≡ now (codes .entry) → b .n ≡ n → r ≡ findFrom (viewed b) code 0) ⌝ }
+{
+    let end = up_to_64(n);
+    let mut i = 0;
+    while i < end {
+        let c = wide(codes[i]);
+        if c == code {
+            return Found::At(i);
+        }
+        i += 1;
+    }
+    Found::Absent
+}
+
+// Whether nothing is held at an index, or a time before this one, by a book with these times and flags.
+pub fn takes_at<'a>(held: &'a [u64], has: &'a [bool], at: usize, time: u64) -> bool
+    requires { ⌜ (length (now held) ≡ 64) × (length (now has) ≡ 64) × (at < 64) ⌝ }
+    ensures { λ r. ⌜ ((b : Book) → b .held ≡ now (held .entry) → b .has ≡ now (has .entry) → r ≡ isAfter time (heldAt b at)) ⌝ }
+{
     !has[at] | (held[at] < time)
 }
 
@@ -47,21 +70,5 @@ pub fn hold(b: Book, at: usize, time: u64, rates: [Rate; 10], amounts: [Amount; 
         has,
         rates: rs,
         amounts: xs,
-    }
-}
-
-// Writes the rates and the amounts of all places in book order.
-pub fn in_order(b: Book, rates: &mut [u32], amounts: &mut [u64])
-    requires { ⌜ (length (now rates) ≡ 10 * upTo64 (b .n)) × (length (now amounts) ≡ 10 * upTo64 (b .n)) ⌝ }
-    ensures { λ _. ⌜ bidsOf (now (rates .exit)) (now (amounts .exit)) ≡ bidsInBook (viewed b) ⌝ }
-{
-    let end = 10 * up_to_64(b.n);
-    let from = b.rates;
-    let sums = b.amounts;
-    let mut i = 0;
-    while i < end {
-        rates[i] = from[i].0;
-        amounts[i] = sums[i].0;
-        i += 1;
     }
 }

@@ -134,6 +134,7 @@ module _ (p : Parts) (g : parts.Given p) (full : length (p .codes) ≡ 65) (size
         codes-length = full;
         sized =
             record {
+              codes-length = sized .codes-length;
               held-length = length-set (p .book .held) (a .at) (a .time) ∙ sized .held-length;
               has-length = length-set (p .book .has) (a .at) true ∙ sized .has-length;
               rates-length = length-sets (p .book .rates) (10 * a .at) (take i (a .rates)) ∙ sized .rates-length;

@@ -1,6 +1,8 @@
 // The session log: a journal, and the fields of a session taken into it one after the other.
 mod fields;
 
+use book::book_of;
+use book::columns_of;
 use book::new_book;
 use fields::holds_field;
 use layout::internal::length_at;
@@ -68,7 +70,7 @@ pub fn run(j: Journal, input: &[u8], space: &mut [u8]) -> Logged
     let mut n = j.n;
     let mut state = tender.state();
     let mut terms = tender.terms();
-    let mut book = tender.book();
+    let mut columns = columns_of(tender.book());
     let mut at = 0;
     let mut length = 0;
     let room = space.len();
@@ -80,7 +82,12 @@ pub fn run(j: Journal, input: &[u8], space: &mut [u8]) -> Logged
             n,
             state,
             terms,
-            book,
+            columns.n,
+            &columns.codes,
+            &columns.held,
+            &columns.has,
+            &columns.rates,
+            &columns.amounts,
             input[at],
             &input[at + 3..end],
             &mut space[length..room],
@@ -99,7 +106,7 @@ pub fn run(j: Journal, input: &[u8], space: &mut [u8]) -> Logged
                 opened = true;
                 state = State::Open;
                 terms = taken.terms;
-                book = new_book(&codes[0..n]);
+                columns = columns_of(new_book(&codes[0..n]));
             }
             Change::InState(next) => {
                 state = next;
@@ -107,12 +114,12 @@ pub fn run(j: Journal, input: &[u8], space: &mut [u8]) -> Logged
             Change::Accepted => {
                 let accepted = taken.accepted;
                 let k = accepted.at;
-                book.held[k] = accepted.time;
-                book.has[k] = true;
+                columns.held[k] = accepted.time;
+                columns.has[k] = true;
                 let mut i = 0;
                 while i < 10 {
-                    book.rates[10 * k + i] = accepted.rates[i];
-                    book.amounts[10 * k + i] = accepted.amounts[i];
+                    columns.rates[10 * k + i] = accepted.rates[i].0;
+                    columns.amounts[10 * k + i] = accepted.amounts[i].0;
                     i += 1;
                 }
             }
@@ -120,7 +127,7 @@ pub fn run(j: Journal, input: &[u8], space: &mut [u8]) -> Logged
         length += taken.length;
         at = end;
     }
-    let tender = tender_of(state, terms, book);
+    let tender = tender_of(state, terms, book_of(columns));
     Logged {
         used: at,
         length,

@@ -1,9 +1,8 @@
 // The steps of a reception that is not refused.
 use crate::Judged;
 use crate::is_admitted;
-use book::Book;
 use book::Found;
-use book::find;
+use book::internal::find_in;
 use book::internal::takes_at;
 use checks::internal::errors_of;
 use digits::number_of;
@@ -17,7 +16,7 @@ ghost use mathlib.Core.Path.{_≡_};
 ghost use mathlib.Core.Bool.{true, _&&_};
 ghost use mathlib.Core.List.{List};
 ghost use Prim.Native.Nat.{ℕ, _≤_, _<_};
-ghost use lib.ListN.{length};
+ghost use lib.ListN.{length, take};
 ghost use Rattle.calendar.specs.Calendar.{validDate, validTime};
 ghost use Rattle.layout.specs.Fields.{readable};
 ghost use Rattle.output.specs.Output.{Wrote};
@@ -27,23 +26,35 @@ ghost use Rattle.rules.specs.Calls.{reply};
 ghost use Rattle.errors.specs.Listed.{listed};
 ghost use Rattle.terms.specs.Viewed as terms;
 ghost use Rattle.bids.specs.Columns.{bidsFrom};
-ghost use Rattle.book.specs.Viewed.{viewed, codesIn};
+ghost use Rattle.book.specs.declared.Book.{Book};
+ghost use Rattle.book.specs.Viewed.{upTo64, viewed, codesIn, Lends, Full};
 ghost use Rattle.checks.specs.Columns.{received};
 ghost use Rattle.reception.specs.Submission.{afterJudged, submitted};
 
-// The errors of a readable message with the fields f, received on a day and at a second, and where the book holds it if it has none.
-pub fn judge(m: &[u8], f: Fields, t: Terms, b: Book, day: u64, second: u64) -> Judged
+// The errors of a readable message with the fields f, received on a day and at a second, and where a book with these codes, times and flags holds it if it has none.
+pub fn judge<'a>(
+    m: &[u8],
+    f: Fields,
+    t: Terms,
+    n: usize,
+    codes: &'a [u32],
+    held: &'a [u64],
+    has: &'a [bool],
+    day: u64,
+    second: u64,
+) -> Judged
     requires { ⌜ readable layout6G1 (now m) ≡ true ⌝ }
     requires { ⌜ f ≡ fieldsOf (now m) ⌝ }
     requires { ⌜ (validDate day && validTime second) ≡ true ⌝ }
-    requires { ⌜ rising (codesIn (viewed b)) ≡ true ⌝ }
-    ensures { λ r. ⌜ ((space : List ℕ) → (listed (r .errors), afterJudged (viewed b) r (bidsFrom (f .places .rates) (f .places .amounts) 0 10)) ≡ submitted (terms.viewed t (codesIn (viewed b))) (viewed b) (received (now (m .entry)) day second space)) × (r .errors .n ≤ 16) × (r .at < 64) ⌝ }
+    requires { ⌜ Full (now codes) (now held) (now has) ⌝ }
+    requires { ⌜ rising (take (upTo64 n) (now codes)) ≡ true ⌝ }
+    ensures { λ r. ⌜ ((b : Book) (space : List ℕ) → Lends b n (now (codes .entry)) (now (held .entry)) (now (has .entry)) → (listed (r .errors), afterJudged (viewed b) r (bidsFrom (f .places .rates) (f .places .amounts) 0 10)) ≡ submitted (terms.viewed t (codesIn (viewed b))) (viewed b) (received (now (m .entry)) day second space)) × (r .errors .n ≤ 16) × (r .at < 64) ⌝ }
 {
     let sender = f.sender;
     let code = number_of(sender);
     let reference = f.time;
     let time = number_of(reference);
-    let found = find(b, code);
+    let found = find_in(codes, n, code);
     let e = errors_of(m, t, f, is_admitted(found), day, second);
     if 1 <= e.n {
         return Judged {
@@ -54,7 +65,7 @@ pub fn judge(m: &[u8], f: Fields, t: Terms, b: Book, day: u64, second: u64) -> J
     }
     match found {
         Found::At(at) => {
-            let taken = takes_at(b, at, time);
+            let taken = takes_at(held, has, at, time);
             Judged {
                 errors: with(e, !taken, 302),
                 time,

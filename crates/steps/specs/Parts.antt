@@ -7,6 +7,7 @@ use Prim.Native.Nat.{ℕ, zero, suc, _*_, _≤_, _<_}
 use lib.ListN.{length, take, drop}
 use Rattle.digits.specs.Decimal.{allDigits, digitsOf, numberIn}
 use Rattle.output.specs.Output.{Wrote}
+use Rattle.envelope.specs.Refusals.{unlessRefused}
 use Rattle.rules.specs.Opening.{rising}
 use Rattle.rules.specs.Receiving.{newBook}
 use Rattle.rules.specs.Calls as rules
@@ -16,9 +17,11 @@ use Rattle.bids.specs.Columns.{bidsFrom}
 use Rattle.book.specs.declared.Book.{Book}
 use Rattle.book.specs.Viewed as book
 use Rattle.tender.specs.declared.State.{State}
+use Rattle.tender.specs.declared.State.the-variants as state
+use Rattle.tender.specs.declared.Tender.{Tender}
 use Rattle.tender.specs.declared.internal.Accepted.{Accepted}
 use Rattle.tender.specs.Viewed as tender
-use Rattle.log.specs.Steps.{Log, Step, ending}
+use Rattle.log.specs.Steps.{Log, Step, ending, allotted}
 use Rattle.steps.specs.declared.Change.{Change}
 use Rattle.steps.specs.declared.Change.the-variants as change
 use Rattle.steps.specs.declared.Taken.{Taken}
@@ -99,3 +102,8 @@ pub record Takes (expected : Step) (p : Parts) (s space : List ℕ) (r : Taken) 
   pub state : kept (expected .0) ≡ after p s (r .terms) (r .accepted) (r .change)
   pub lines : Wrote space 0 (expected .1) left (r .length)
   pub can : Possible p s (r .accepted) (r .change)
+
+-- an allotment of a tender with its lines, those of the awards or of the refusal
+pub record PutsAllotment (t : Tender) (space : List ℕ) (r : Taken) (left : List ℕ) : Type 0 where
+  pub lines : Wrote space 0 (allotted (tender.viewed t) .1) left (r .length)
+  pub change-is : r .change ≡ unlessRefused (rules.allottingRefused (tender.viewed t)) change.None (change.InState state.Announced)

@@ -6,15 +6,13 @@ use crate::internal::put_answer;
 use crate::internal::time_of;
 use crate::internal::up_to_65;
 use award_lines::internal::put_awards;
-use book::Book;
-use book::no_amounts;
-use book::no_rates;
+use book::no_awards;
 use book::up_to_64;
 use digits::all_digits;
 use lines::internal::put_refused;
 use tender::Refusal;
 use tender::State;
-use tender::internal::allot_book;
+use tender::internal::allot_bids;
 use tender::internal::close_refusal;
 use tender::internal::is_held;
 use tender::internal::nothing_accepted;
@@ -26,23 +24,22 @@ use terms::is_opened;
 use terms::no_terms;
 use terms::number_of_answer;
 ghost use mathlib.Core.Path.{_≡_};
-ghost use mathlib.Core.Bool.{Bool};
+ghost use mathlib.Core.Bool.{Bool, true};
 ghost use mathlib.Core.List.{List};
 ghost use Rattle.envelope.specs.Refusals.{unlessRefused};
-ghost use Rattle.rules.specs.Calls.{allottingRefused};
 ghost use Prim.Native.Nat.{ℕ, _≤_};
-ghost use lib.ListN.{length};
+ghost use lib.ListN.{length, take};
+ghost use Rattle.rules.specs.Opening.{rising};
 ghost use Rattle.output.specs.Output.{Wrote};
 ghost use Rattle.terms.specs.declared.Terms.{Terms};
 ghost use Rattle.book.specs.declared.Book.{Book};
+ghost use Rattle.book.specs.Viewed.{bookOf, Lends, Full, upTo64};
 ghost use Rattle.tender.specs.declared.State.{State};
-ghost use Rattle.tender.specs.declared.State.the-variants as announced;
-ghost use Rattle.tender.specs.Viewed as tender;
 ghost use Rattle.tender.specs.Viewed.{numberOf, tenderOf};
 ghost use Rattle.log.specs.Steps as steps;
-ghost use Rattle.log.specs.Steps.{ending, admission, announcement, reception, closing, revocation, allotted, allotting};
+ghost use Rattle.log.specs.Steps.{ending, admission, announcement, reception, closing, revocation, allotting};
 ghost use Rattle.steps.specs.declared.Change.the-variants as change;
-ghost use Rattle.steps.specs.Parts.{Parts, parts, viewed, Given, Takes};
+ghost use Rattle.steps.specs.Parts.{Parts, parts, viewed, Given, Takes, PutsAllotment};
 
 // Lines of a length, and a change that needs neither terms nor a message.
 fn with_change(length: usize, change: Change) -> Taken
@@ -96,17 +93,21 @@ pub fn announcement(codes: [u32; 65], n: usize, s: &[u8], space: &mut [u8]) -> T
 }
 
 // A2: a reception.
-pub fn reception(
+pub fn reception<'a>(
     opened: bool,
     state: State,
     terms: Terms,
-    book: Book,
+    k: usize,
+    admitted: &'a [u32],
+    held: &'a [u64],
+    has: &'a [bool],
     s: &[u8],
     space: &mut [u8],
 ) -> Taken
-    requires { ⌜ tender.Given (tenderOf state terms book) ⌝ }
+    requires { ⌜ Full (now admitted) (now held) (now has) ⌝ }
+    requires { ⌜ rising (take (upTo64 k) (now admitted)) ≡ true ⌝ }
     requires { ⌜ 74 ≤ length (now space) ⌝ }
-    ensures { λ r. ⌜ ((codes : List ℕ) (n : ℕ) → Given (parts opened codes n state terms book) → Takes (reception (viewed (parts opened codes n state terms book)) (now (s .entry))) (parts opened codes n state terms book) (now (s .entry)) (now (space .entry)) r (now (space .exit))) ⌝ }
+    ensures { λ r. ⌜ ((codes : List ℕ) (n : ℕ) (book : Book) → Lends book k (now (admitted .entry)) (now (held .entry)) (now (has .entry)) → Given (parts opened codes n state terms book) → Takes (reception (viewed (parts opened codes n state terms book)) (now (s .entry))) (parts opened codes n state terms book) (now (s .entry)) (now (space .entry)) r (now (space .exit))) ⌝ }
 {
     if s.len() < 14 {
         return with_change(0, Change::Ended);
@@ -115,7 +116,18 @@ pub fn reception(
         return with_change(0, Change::None);
     }
     let m = &s[14..s.len()];
-    let outcome = outcome_of(state, terms, book, m, date_of(s), time_of(s), 418);
+    let outcome = outcome_of(
+        state,
+        terms,
+        k,
+        admitted,
+        held,
+        has,
+        m,
+        date_of(s),
+        time_of(s),
+        418,
+    );
     let refusal = outcome.refusal;
     let errors = outcome.errors;
     let length = put_answer(space, s, m, refusal, errors);
@@ -174,36 +186,53 @@ pub fn revocation(opened: bool, state: State, s: &[u8], space: &mut [u8]) -> Tak
 }
 
 // Allots and writes the lines of the awards, or that of the refusal.
-fn put_allotment(state: State, terms: Terms, book: Book, space: &mut [u8]) -> Taken
+fn put_allotment<'a>(
+    state: State,
+    terms: Terms,
+    k: usize,
+    admitted: &'a [u32],
+    rates: &'a [u32],
+    amounts: &'a [u64],
+    space: &mut [u8],
+) -> Taken
+    requires { ⌜ (length (now admitted) ≡ 64) × (length (now rates) ≡ 640) × (length (now amounts) ≡ 640) ⌝ }
     requires { ⌜ 23040 ≤ length (now space) ⌝ }
-    ensures { λ r. ⌜ Wrote (now (space .entry)) 0 (allotted (tender.viewed (tenderOf state terms book)) .1) (now (space .exit)) (r .length) × (r .change ≡ unlessRefused (allottingRefused (tender.viewed (tenderOf state terms book))) change.None (change.InState announced.Announced)) ⌝ }
+    ensures { λ r. ⌜ ((held : List ℕ) (has : List Bool) → PutsAllotment (tenderOf state terms (bookOf k (now (admitted .entry)) held has (now (rates .entry)) (now (amounts .entry)))) (now (space .entry)) r (now (space .exit))) ⌝ }
 {
-    let n = up_to_64(book.n);
+    let n = up_to_64(k);
     let end = 10 * n;
-    let mut rates = no_rates();
-    let mut awards = no_amounts();
-    let answer = allot_book(state, terms, book, &mut rates[0..end], &mut awards[0..end]);
+    let mut awards = no_awards();
+    let answer = allot_bids(
+        state,
+        terms,
+        &rates[0..end],
+        &amounts[0..end],
+        &mut awards[0..end],
+    );
     let refusal = answer.refusal;
     if is_refused(refusal) {
         let length = put_refused(space, tender::number_of(refusal));
         return with_change(length, Change::None);
     }
-    let codes = book.codes;
-    let length = put_awards(space, &codes[0..n], &rates[0..end], &awards[0..end]);
+    let length = put_awards(space, &admitted[0..n], &rates[0..end], &awards[0..end]);
     with_change(length, Change::InState(State::Announced))
 }
 
 // A5: allotment.
-pub fn allotting(
+pub fn allotting<'a>(
     opened: bool,
     state: State,
     terms: Terms,
-    book: Book,
+    k: usize,
+    admitted: &'a [u32],
+    rates: &'a [u32],
+    amounts: &'a [u64],
     s: &[u8],
     space: &mut [u8],
 ) -> Taken
+    requires { ⌜ (length (now admitted) ≡ 64) × (length (now rates) ≡ 640) × (length (now amounts) ≡ 640) ⌝ }
     requires { ⌜ 23040 ≤ length (now space) ⌝ }
-    ensures { λ r. ⌜ ((codes : List ℕ) (n : ℕ) → Given (parts opened codes n state terms book) → Takes (allotting (viewed (parts opened codes n state terms book)) (now (s .entry))) (parts opened codes n state terms book) (now (s .entry)) (now (space .entry)) r (now (space .exit))) ⌝ }
+    ensures { λ r. ⌜ ((codes : List ℕ) (n : ℕ) (held : List ℕ) (has : List Bool) → (let p = parts opened codes n state terms (bookOf k (now (admitted .entry)) held has (now (rates .entry)) (now (amounts .entry))) in Given p → Takes (allotting (viewed p) (now (s .entry))) p (now (s .entry)) (now (space .entry)) r (now (space .exit)))) ⌝ }
 {
     if s.len() != 0 {
         return with_change(0, Change::Ended);
@@ -211,5 +240,5 @@ pub fn allotting(
     if !opened {
         return with_change(0, Change::None);
     }
-    put_allotment(state, terms, book, space)
+    put_allotment(state, terms, k, admitted, rates, amounts, space)
 }

@@ -7,7 +7,6 @@ use crate::fields::closing;
 use crate::fields::ended;
 use crate::fields::reception;
 use crate::fields::revocation;
-use book::Book;
 use digits::has_number;
 use digits::internal::number;
 use digits::number_of;
@@ -30,6 +29,7 @@ ghost use Rattle.output.specs.Output.{Wrote};
 ghost use Rattle.digits.specs.Decimal.{allDigits};
 ghost use Rattle.layout.specs.Fields.{readable};
 ghost use Rattle.envelope.specs.Application.{layout6G1};
+ghost use Rattle.book.specs.Viewed.{bookOf, Full};
 ghost use Rattle.errors.specs.Listed.{listed};
 ghost use Rattle.tender.specs.Viewed.{numberOf, answerIn};
 ghost use Rattle.log.specs.Steps.{dateOf, timeOf, answerLine, step};
@@ -106,28 +106,34 @@ pub fn put_answer(space: &mut [u8], s: &[u8], m: &[u8], r: Refusal, e: Errors) -
 }
 
 // Takes one field, its tag and contents, and writes its lines at the start of the space, which has room for 640 of them.
-pub fn step(
+pub fn step<'a>(
     opened: bool,
     codes: [u32; 65],
     n: usize,
     state: State,
     terms: Terms,
-    book: Book,
+    k: usize,
+    admitted: &'a [u32],
+    held: &'a [u64],
+    has: &'a [bool],
+    rates: &'a [u32],
+    amounts: &'a [u64],
     tag: u8,
     s: &[u8],
     space: &mut [u8],
 ) -> Taken
-    requires { ⌜ Given (parts opened codes n state terms book) ⌝ }
+    requires { ⌜ Full (now admitted) (now held) (now has) × (length (now rates) ≡ 640) × (length (now amounts) ≡ 640) ⌝ }
+    requires { ⌜ Given (parts opened codes n state terms (bookOf k (now admitted) (now held) (now has) (now rates) (now amounts))) ⌝ }
     requires { ⌜ 23040 ≤ length (now space) ⌝ }
-    ensures { λ r. ⌜ Takes (step (viewed (parts opened codes n state terms book)) tag (now (s .entry))) (parts opened codes n state terms book) (now (s .entry)) (now (space .entry)) r (now (space .exit)) ⌝ }
+    ensures { λ r. ⌜ (let p = parts opened codes n state terms (bookOf k (now (admitted .entry)) (now (held .entry)) (now (has .entry)) (now (rates .entry)) (now (amounts .entry))) in Takes (step (viewed p) tag (now (s .entry))) p (now (s .entry)) (now (space .entry)) r (now (space .exit))) ⌝ }
 {
     match tag {
         0xA0 => admission(s),
         0xA1 => announcement(codes, n, s, space),
-        0xA2 => reception(opened, state, terms, book, s, space),
+        0xA2 => reception(opened, state, terms, k, admitted, held, has, s, space),
         0xA3 => closing(opened, state, terms, s, space),
         0xA4 => revocation(opened, state, s, space),
-        0xA5 => allotting(opened, state, terms, book, s, space),
+        0xA5 => allotting(opened, state, terms, k, admitted, rates, amounts, s, space),
         _ => ended(),
     }
 }

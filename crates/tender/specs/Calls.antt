@@ -13,7 +13,6 @@ use Rattle.rules.specs.Receiving.{Reception, Error, Entry, returnedErrors}
 use Rattle.rules.specs.Allotment.{awards, marginalRate}
 use Rattle.rules.specs.Opening.{offerOf}
 use Rattle.rules.specs.Calls as rules
-use Rattle.bids.specs.Columns.{bidsOf}
 use Rattle.marginal.specs.Ranks.{rateIn}
 use Rattle.errors.specs.Listed.{listed}
 use Rattle.terms.specs.Viewed.{openRefusal}
@@ -76,11 +75,6 @@ pub record Allots (t : Tender) (r : Allotted) : Type 0 where
   pub equal : (numberOf (r .refusal), viewed (r .tender), allottedIn r) ≡ rules.allot (viewed t)
   pub unchanged : r .tender ≡ unlessRefused (numberOf (r .refusal)) t (r .tender)
   pub given : Given (r .tender)
-
--- the rates of the bids of entries, in book order
-pub record RatesIn (es : List Entry) (rates : List ℕ) : Type 0 where
-  pub amounts : List ℕ
-  pub bids : bidsOf rates amounts ≡ rules.bidsInBook es
 
 -- the marginal rate and the awards of the bids in the book
 abbrev pub awardedTo : rules.Tender → Option ℕ × List ℕ

@@ -7,8 +7,6 @@ use crate::not_open;
 use allotment::internal::allot;
 use book::Book;
 use book::internal::hold;
-use book::internal::in_order;
-use book::no_amounts;
 use calendar::moment_later;
 use envelope::application::Fields;
 use envelope::application::ReadAnswer;
@@ -25,8 +23,8 @@ ghost use mathlib.Core.Path.{_≡_};
 ghost use mathlib.Core.Bool.{true, false, _&&_};
 ghost use mathlib.Core.List.{List, [], _∷_};
 ghost use mathlib.Core.Option.{none};
-ghost use Prim.Native.Nat.{ℕ, _*_, _≤_, _<_};
-ghost use lib.ListN.{length};
+ghost use Prim.Native.Nat.{ℕ, _≤_, _<_};
+ghost use lib.ListN.{length, take};
 ghost use Rattle.envelope.specs.Refusals.{firstHolding};
 ghost use Rattle.calendar.specs.Calendar.{validDate, validTime};
 ghost use Rattle.layout.specs.Fields.{readable};
@@ -37,12 +35,12 @@ ghost use Rattle.bids.specs.Columns.{bidsOf};
 ghost use Rattle.terms.specs.declared.Terms.{Terms};
 ghost use Rattle.book.specs.declared.Book.{Book};
 ghost use Rattle.book.specs.Viewed as entries;
-ghost use Rattle.book.specs.Viewed.{codesIn, upTo64};
+ghost use Rattle.book.specs.Viewed.{upTo64, Lends, Full};
 ghost use Rattle.checks.specs.Columns.{received};
 ghost use Rattle.tender.specs.declared.State.{State};
 ghost use Rattle.tender.specs.Viewed.{viewed, Given, numberOf, tenderOf, isHeld, entriesAfter};
 ghost use Rattle.tender.specs.declared.Tender.{Tender};
-ghost use Rattle.tender.specs.Calls.{notClosed, Left, ComesTo, RatesIn, AllotsBids};
+ghost use Rattle.tender.specs.Calls.{notClosed, Left, ComesTo, AllotsBids};
 
 // What is accepted of a message: where its code stands, its reference time and its ten places.
 pub struct Accepted {
@@ -92,14 +90,25 @@ fn refused_with(refusal: Refusal) -> Outcome
 }
 
 // What the reception of a readable message with the fields f comes to.
-fn judged(terms: Terms, book: Book, m: &[u8], f: Fields, date: u64, time: u64) -> Outcome
-    requires { ⌜ rising (codesIn (entries.viewed book)) ≡ true ⌝ }
+fn judged<'a>(
+    terms: Terms,
+    n: usize,
+    codes: &'a [u32],
+    held: &'a [u64],
+    has: &'a [bool],
+    m: &[u8],
+    f: Fields,
+    date: u64,
+    time: u64,
+) -> Outcome
+    requires { ⌜ Full (now codes) (now held) (now has) ⌝ }
+    requires { ⌜ rising (take (upTo64 n) (now codes)) ≡ true ⌝ }
     requires { ⌜ readable layout6G1 (now m) ≡ true ⌝ }
     requires { ⌜ f ≡ fieldsOf (now m) ⌝ }
     requires { ⌜ (validDate date && validTime time) ≡ true ⌝ }
-    ensures { λ r. ⌜ (numberOf (r .refusal) ≡ none) × (r .errors .n ≤ 16) × (r .accepted .at < 64) × ((s : State) (space : List ℕ) → Left (tenderOf s terms book) (received (now (m .entry)) date time space) r) ⌝ }
+    ensures { λ r. ⌜ (numberOf (r .refusal) ≡ none) × (r .errors .n ≤ 16) × (r .accepted .at < 64) × ((b : Book) → Lends b n (now (codes .entry)) (now (held .entry)) (now (has .entry)) → (s : State) (space : List ℕ) → Left (tenderOf s terms b) (received (now (m .entry)) date time space) r) ⌝ }
 {
-    let j = judge(m, f, terms, book, date, time);
+    let j = judge(m, f, terms, n, codes, held, has, date, time);
     let errors = j.errors;
     let places = f.places;
     let rates = places.rates;
@@ -117,18 +126,22 @@ fn judged(terms: Terms, book: Book, m: &[u8], f: Fields, date: u64, time: u64) -
     }
 }
 
-// What the reception of a message comes to, with so much room for the reply.
-pub fn outcome_of(
+// What the reception of a message comes to, with so much room for the reply, where a book has these codes, times and flags: they are lent, for an index into a book by value copies it.
+pub fn outcome_of<'a>(
     state: State,
     terms: Terms,
-    book: Book,
+    n: usize,
+    codes: &'a [u32],
+    held: &'a [u64],
+    has: &'a [bool],
     m: &[u8],
     date: u64,
     time: u64,
     room: usize,
 ) -> Outcome
-    requires { ⌜ Given (tenderOf state terms book) ⌝ }
-    ensures { λ r. ⌜ ComesTo (tenderOf state terms book) (now (m .entry)) date time room r ⌝ }
+    requires { ⌜ Full (now codes) (now held) (now has) ⌝ }
+    requires { ⌜ rising (take (upTo64 n) (now codes)) ≡ true ⌝ }
+    ensures { λ r. ⌜ ((b : Book) → Lends b n (now (codes .entry)) (now (held .entry)) (now (has .entry)) → ComesTo (tenderOf state terms b) (now (m .entry)) date time room r) ⌝ }
 {
     let first = not_open(state, date, time);
     if is_refused(first) {
@@ -143,7 +156,7 @@ pub fn outcome_of(
         ReadAnswer::Unreadable => refused_with(Refusal::Unreadable),
         ReadAnswer::Readable => {
             let fields = reading.fields;
-            judged(terms, book, m, fields, date, time)
+            judged(terms, n, codes, held, has, m, fields, date, time)
         }
     }
 }
@@ -203,7 +216,7 @@ pub struct AllotAnswer {
 }
 
 // Allots to the bids of a book, given in book order, and writes their awards; refused, it writes nothing.
-fn allot_bids(
+pub fn allot_bids(
     state: State,
     terms: Terms,
     rates: &[u32],
@@ -234,23 +247,6 @@ fn allot_bids(
         refusal: bids_refusal(allotment.exceeds),
         marginal,
     }
-}
-
-// Allots to the bids of a book and writes their rates and their awards in book order; refused, it writes no awards.
-pub fn allot_book(
-    state: State,
-    terms: Terms,
-    book: Book,
-    rates: &mut [u32],
-    awards: &mut [u64],
-) -> AllotAnswer
-    requires { ⌜ (length (now rates) ≡ 10 * upTo64 (book .n)) × (length (now awards) ≡ 10 * upTo64 (book .n)) ⌝ }
-    ensures { λ r. ⌜ RatesIn (entries.viewed book) (now (rates .exit)) × AllotsBids (tenderOf state terms book) (now (awards .entry)) r (now (awards .exit)) ⌝ }
-{
-    let end = rates.len();
-    let mut amounts = no_amounts();
-    in_order(book, rates, &mut amounts[0..end]);
-    allot_bids(state, terms, rates, &amounts[0..end], awards)
 }
 
 // The book after a reception.

@@ -2,15 +2,15 @@
 pub mod internal;
 
 use book::Book;
+use book::columns_of;
 use book::new_book;
-use book::no_amounts;
-use book::no_rates;
+use book::no_awards;
 use book::up_to_64;
 use calendar::valid_date;
 use calendar::valid_time;
 use errors::Errors;
 use errors::none;
-use internal::allot_book;
+use internal::allot_bids;
 use internal::close_refusal;
 use internal::held_in;
 use internal::outcome_of;
@@ -240,7 +240,18 @@ impl Tender {
         let state = self.state;
         let terms = self.terms;
         let book = self.book;
-        let o = outcome_of(state, terms, book, m, date, time, space.len());
+        let o = outcome_of(
+            state,
+            terms,
+            book.n,
+            &book.codes,
+            &book.held,
+            &book.has,
+            m,
+            date,
+            time,
+            space.len(),
+        );
         let refusal = o.refusal;
         if is_refused(refusal) {
             return unreceived(self, refusal);
@@ -279,10 +290,18 @@ impl Tender {
         let state = self.state;
         let terms = self.terms;
         let book = self.book;
+        let columns = columns_of(book);
+        let rates = columns.rates;
+        let amounts = columns.amounts;
         let end = 10 * up_to_64(book.n);
-        let mut rates = no_rates();
-        let mut awards = no_amounts();
-        let answer = allot_book(state, terms, book, &mut rates[0..end], &mut awards[0..end]);
+        let mut awards = no_awards();
+        let answer = allot_bids(
+            state,
+            terms,
+            &rates[0..end],
+            &amounts[0..end],
+            &mut awards[0..end],
+        );
         let refusal = answer.refusal;
         let marginal = answer.marginal;
         let tender = in_state_unless(self, refusal, State::Announced).tender;

@@ -11,16 +11,17 @@ use mir.Val.{Val}
 use denote.Ref.{now}
 use denote.Laws.{Is}
 use lib.Dec.{leb}
-use lib.ListN.{length, take, drop, length-drop}
-use lib.Seq.{sets}
+use lib.ListN.{length, take, drop, length-drop, length-map}
 use borrow.Author.Tests.{leb-true, not-true}
 use Rattle.laws.proofs.Arrays.{length-mapped}
 use Rattle.laws.proofs.Tests.{and-left, and-right}
 use Rattle.rules.specs.Receiving.{newBook}
-use Rattle.bids.specs.Columns.{noRate, noAmount}
 use Rattle.book.specs.declared.Book.{Book}
+use Rattle.book.specs.declared.Columns.{Columns}
+use Rattle.book.specs.Viewed.{rateOf, amountOf, columnsOf, bookIn}
 use Rattle.book.proofs.Book as book
-use Rattle.book.proofs.Storing.{Sized, placed, one-placed}
+use Rattle.book.proofs.Order.{columns-back}
+use Rattle.book.proofs.Storing.{Sized, placedTo, one-placed, book-placed}
 use Rattle.tender.specs.declared.internal.Accepted.{Accepted}
 use Rattle.tender.proofs.internal.Accepted as accepted-row
 use Rattle.log.specs.Steps.{holdsField}
@@ -39,19 +40,19 @@ use Rattle.journal.proofs.run.Tie as tie
 
 -- the places of a message up to the i-th are stored
 abbrev Inv-loop2 : tie.InvT-loop2
-Inv-loop2 input space ended opened codes n state terms book₀ at length₁ room end taken accepted k i₀ book i =
-    (i ≤ 10) × (k < 64) × (length (accepted .rates) ≡ 10) × (length (accepted .amounts) ≡ 10) × (length (book₀ .rates) ≡ 640) × (length (book₀ .amounts) ≡ 640)
-    × (book ≡ placed book₀ (sets (book₀ .rates) (10 * k) (take i (accepted .rates))) (sets (book₀ .amounts) (10 * k) (take i (accepted .amounts))))
+Inv-loop2 input space ended opened codes n state terms columns₀ at length₁ room end taken accepted k i₀ columns i =
+    (i ≤ 10) × (k < 64) × (length (accepted .rates) ≡ 10) × (length (accepted .amounts) ≡ 10) × (length (columns₀ .rates) ≡ 640) × (length (columns₀ .amounts) ≡ 640)
+    × (columns ≡ placedTo columns₀ k i (accepted .rates) (accepted .amounts))
 
 abbrev μ-loop2 : tie.MeasureT-loop2
-μ-loop2 input space ended opened codes n state terms book₀ at length₁ room end taken accepted k i₀ book i = 10 - i
+μ-loop2 input space ended opened codes n state terms columns₀ at length₁ room end taken accepted k i₀ columns i = 10 - i
 
 abbrev Inv-loop : tie.InvT-loop
-Inv-loop input space₀ ended₀ opened₀ codes₀ n₀ state₀ terms₀ book₀ at₀ length₀ room space ended opened codes n state terms book at length =
-    Logging input space₀ (journalOf ended₀ (parts opened₀ codes₀ n₀ state₀ terms₀ book₀)) space (journalOf ended (parts opened codes n state terms book)) at length
+Inv-loop input space₀ ended₀ opened₀ codes₀ n₀ state₀ terms₀ columns₀ at₀ length₀ room space ended opened codes n state terms columns at length =
+    Logging input space₀ (journalOf ended₀ (parts opened₀ codes₀ n₀ state₀ terms₀ (bookIn columns₀))) space (journalOf ended (parts opened codes n state terms (bookIn columns))) at length
 
 abbrev μ-loop : tie.MeasureT-loop
-μ-loop input space₀ ended₀ opened₀ codes₀ n₀ state₀ terms₀ book₀ at₀ length₀ room space ended opened codes n state terms book at m = length input - at
+μ-loop input space₀ ended₀ opened₀ codes₀ n₀ state₀ terms₀ columns₀ at₀ length₀ room space ended opened codes n state terms columns at m = length input - at
 
 state-requires : tie.Need-state-requires Inv-loop2 μ-loop2 Inv-loop μ-loop
 state-requires c κs = search needs
@@ -62,25 +63,44 @@ terms-requires c κs = search needs
 book-requires : tie.Need-book-requires Inv-loop2 μ-loop2 Inv-loop μ-loop
 book-requires c κs = search needs
 
+columns-of-requires : tie.Need-columns-of-requires Inv-loop2 μ-loop2 Inv-loop μ-loop
+columns-of-requires c κs = search needs
+
+-- the call, and the loop, the turn and the head of the field that a later place looks back to
+abbrev startOf : tie.At-loop Inv-loop2 μ-loop2 Inv-loop μ-loop → tie.Start Inv-loop2 μ-loop2 Inv-loop μ-loop
+startOf c = c .before .before .before .before .before .before .before .before .before
+
+abbrev loopOf : tie.Then1 Inv-loop2 μ-loop2 Inv-loop μ-loop → tie.At-loop Inv-loop2 μ-loop2 Inv-loop μ-loop
+loopOf c = c .before .before
+
+abbrev headOf : tie.After-step Inv-loop2 μ-loop2 Inv-loop μ-loop → tie.After-length-at Inv-loop2 μ-loop2 Inv-loop μ-loop
+headOf c = c .before .before .before .before .before .before .before .before .before .before .before .before .before .before .before
+
 -- the lengths that arrays have by their types
 sized : (b : Book) (vs : List Val) → Is book.the-row b vs → Sized b
-sized b vs p = record { held-length = search needs; has-length = search (needs, length-mapped); rates-length = search (needs, length-mapped); amounts-length = search (needs, length-mapped) }
+sized b vs p = record { codes-length = search needs; held-length = search needs; has-length = search (needs, length-mapped); rates-length = search (needs, length-mapped); amounts-length = search (needs, length-mapped) }
 
 codes-full : (c : tie.Start Inv-loop2 μ-loop2 Inv-loop μ-loop) → length (c .args .j .codes) ≡ 65
 codes-full c = search needs
 
+-- columns of a book are those of that book
+of-book : (b : Book) (c : Columns) → c ≡ columnsOf b → bookIn c ≡ b
+of-book b c e = ap bookIn e ∙ columns-back b
+
 -- the journal is that of its parts
-whole-journal : (c : tie.After-book Inv-loop2 μ-loop2 Inv-loop μ-loop)
-    → (let a = c .before .before .before .before .before .before .before .args in
-    journalOf (a .j .ended) (parts (a .j .opened) (a .j .codes) (a .j .n) (c .before .before .state .result) (c .before .terms .result) (c .book .result)) ≡ a .j)
+whole-journal : (c : tie.After-columns-of Inv-loop2 μ-loop2 Inv-loop μ-loop)
+    → (let a = c .before .before .before .before .before .before .before .before .args in
+    journalOf (a .j .ended) (parts (a .j .opened) (a .j .codes) (a .j .n) (c .before .before .before .state .result) (c .before .before .terms .result) (bookIn (c .columns-of .result))) ≡ a .j)
 whole-journal c =
-    let a = c .before .before .before .before .before .before .before .args in
-    λ i. record { ended = a .j .ended; opened = a .j .opened; codes = a .j .codes; n = a .j .n; tender = record { state = c .before .before .state .ensures i; terms = c .before .terms .ensures i; book = c .book .ensures i } }
+    let a = c .before .before .before .before .before .before .before .before .args in
+    let b = of-book (c .before .book .result) (c .columns-of .result) (c .columns-of .ensures) ∙ c .before .book .ensures in
+    λ i. record { ended = a .j .ended; opened = a .j .opened; codes = a .j .codes; n = a .j .n; tender = record { state = c .before .before .before .state .ensures i; terms = c .before .before .terms .ensures i; book = b i } }
 
 loop-holds : tie.Need-loop-holds Inv-loop2 μ-loop2 Inv-loop μ-loop
 loop-holds c =
-    let start = c .before .before .before .before .before .before .before in
-    none-logged (now (start .args .input)) (now (start .args .space)) _ (subst Given (sym (whole-journal c)) (start .pre)) (codes-full start) (sized (c .book .result) _ (c .book .ok))
+    let start = c .before .before .before .before .before .before .before .before in
+    none-logged (now (start .args .input)) (now (start .args .space)) _ (subst Given (sym (whole-journal c)) (start .pre)) (codes-full start)
+    (subst Sized (sym (of-book (c .before .book .result) (c .columns-of .result) (c .columns-of .ensures))) (sized (c .before .book .result) _ (c .before .book .ok)))
 
 holds-field-requires : tie.Need-holds-field-requires Inv-loop2 μ-loop2 Inv-loop μ-loop
 holds-field-requires c κs = c .loop .inv .within
@@ -90,73 +110,87 @@ sub-if1 c = c .before .loop .inv .room
 
 -- a turn finds a whole field, a log that has not ended, and room for any lines
 going : (c : tie.Then1 Inv-loop2 μ-loop2 Inv-loop μ-loop)
-    → (let l = c .before .before .loop in (c .before .holds-field .result && not (l .ended) && leb 23040 (length (now (c .before .before .before .before .before .before .before .before .before .before .args .space)) - l .length)) ≡ true)
+    → (let l = loopOf c .loop in (c .before .holds-field .result && not (l .ended) && leb 23040 (length (now (startOf (loopOf c) .args .space)) - l .length)) ≡ true)
 going c = c .if1 .taken
 
-field-there : (c : tie.Then1 Inv-loop2 μ-loop2 Inv-loop μ-loop) → holdsField (drop (c .before .before .loop .at) (now (c .before .before .before .before .before .before .before .before .before .before .args .input))) ≡ true
-field-there c = sym (c .before .holds-field .ensures) ∙ and-left (c .before .holds-field .result) (not (c .before .before .loop .ended)) (and-left (c .before .holds-field .result && not (c .before .before .loop .ended)) _ (going c))
+field-there : (c : tie.Then1 Inv-loop2 μ-loop2 Inv-loop μ-loop) → holdsField (drop (loopOf c .loop .at) (now (startOf (loopOf c) .args .input))) ≡ true
+field-there c = sym (c .before .holds-field .ensures) ∙ and-left (c .before .holds-field .result) (not (loopOf c .loop .ended)) (and-left (c .before .holds-field .result && not (loopOf c .loop .ended)) _ (going c))
 
-unended : (c : tie.Then1 Inv-loop2 μ-loop2 Inv-loop μ-loop) → c .before .before .loop .ended ≡ false
-unended c = not-true (c .before .before .loop .ended) (and-right (c .before .holds-field .result) (not (c .before .before .loop .ended)) (and-left (c .before .holds-field .result && not (c .before .before .loop .ended)) _ (going c)))
+unended : (c : tie.Then1 Inv-loop2 μ-loop2 Inv-loop μ-loop) → loopOf c .loop .ended ≡ false
+unended c = not-true (loopOf c .loop .ended) (and-right (c .before .holds-field .result) (not (loopOf c .loop .ended)) (and-left (c .before .holds-field .result && not (loopOf c .loop .ended)) _ (going c)))
 
-roomy : (c : tie.Then1 Inv-loop2 μ-loop2 Inv-loop μ-loop) → 23040 ≤ length (now (c .before .before .before .before .before .before .before .before .before .before .args .space)) - c .before .before .loop .length
-roomy c = leb-true 23040 (length (now (c .before .before .before .before .before .before .before .before .before .before .args .space)) - c .before .before .loop .length) (and-right (c .before .holds-field .result && not (c .before .before .loop .ended)) _ (going c))
+roomy : (c : tie.Then1 Inv-loop2 μ-loop2 Inv-loop μ-loop) → 23040 ≤ length (now (startOf (loopOf c) .args .space)) - loopOf c .loop .length
+roomy c = leb-true 23040 (length (now (startOf (loopOf c) .args .space)) - loopOf c .loop .length) (and-right (c .before .holds-field .result && not (loopOf c .loop .ended)) _ (going c))
 
 -- the field's head and its end
-headed : (c : tie.Then1 Inv-loop2 μ-loop2 Inv-loop μ-loop) → c .before .before .loop .at + 3 ≤ length (now (c .before .before .before .before .before .before .before .before .before .before .args .input))
+headed : (c : tie.Then1 Inv-loop2 μ-loop2 Inv-loop μ-loop) → loopOf c .loop .at + 3 ≤ length (now (startOf (loopOf c) .args .input))
 headed c =
-    let l = c .before .before .loop in
-    let x = now (c .before .before .before .before .before .before .before .before .before .before .args .input) in
+    let l = loopOf c .loop in
+    let x = now (startOf (loopOf c) .args .input) in
     let h = held-head (drop (l .at) x) (field-there c) in
     let d = length-drop (l .at) x in
     omega (arith, h, d)
 
-ends : (c : tie.After-length-at Inv-loop2 μ-loop2 Inv-loop μ-loop) → c .before .before .before .loop .at + 3 + c .length-at .result ≤ length (now (c .before .before .before .before .before .before .before .before .before .before .before .args .input))
-ends c = ends-at (now (c .before .before .before .before .before .before .before .before .before .before .before .args .input)) (c .before .before .before .loop .at) (c .length-at .result) (c .length-at .ensures .0) (field-there (c .before))
+ends : (c : tie.After-length-at Inv-loop2 μ-loop2 Inv-loop μ-loop) → loopOf (c .before) .loop .at + 3 + c .length-at .result ≤ length (now (startOf (loopOf (c .before)) .args .input))
+ends c = ends-at (now (startOf (loopOf (c .before)) .args .input)) (loopOf (c .before) .loop .at) (c .length-at .result) (c .length-at .ensures .0) (field-there (c .before))
 
--- no space is longer than an index
+-- no space is longer than an index, and no input
 space-short : (c : tie.After-slice-known Inv-loop2 μ-loop2 Inv-loop μ-loop) → length (now (c .before .before .args .space)) < 18446744073709551616
 space-short c = omega arith
 
+slice-short : (c : tie.After-shared-slice-known Inv-loop2 μ-loop2 Inv-loop μ-loop) → length (now (c .before .args .input)) < 18446744073709551616
+slice-short c = omega arith
+
+input-short : (c : tie.At-loop Inv-loop2 μ-loop2 Inv-loop μ-loop) → length (now (startOf c .args .input)) < 18446744073709551616
+input-short c = slice-short (c .before .before .before .before .before .before .before .before)
+
 add-end : tie.Need-add-end Inv-loop2 μ-loop2 Inv-loop μ-loop
-add-end c = let h = headed (c) in omega (arith, h)
+add-end c = let h = headed c in let k = input-short (loopOf c) in omega (arith, h, k)
 
 length-at-requires : tie.Need-length-at-requires Inv-loop2 μ-loop2 Inv-loop μ-loop
-length-at-requires c κs = headed (c)
+length-at-requires c κs = headed c
 
 add-end-2 : tie.Need-add-end-2 Inv-loop2 μ-loop2 Inv-loop μ-loop
-add-end-2 c = let h = ends c in omega (arith, h)
+add-end-2 c = let h = ends c in let k = input-short (loopOf (c .before)) in omega (arith, h, k)
 
 shared-slice-read-step : tie.Need-shared-slice-read-step Inv-loop2 μ-loop2 Inv-loop μ-loop
-shared-slice-read-step c = let h = ends (c .before) in omega (arith, h)
+shared-slice-read-step c = let h = ends (c .before .before .before .before .before .before .before .before .before .before .before .before) in omega (arith, h)
 
 add-step : tie.Need-add-step Inv-loop2 μ-loop2 Inv-loop μ-loop
-add-step c = let h = ends (c .before) in omega (arith, h)
+add-step c = let h = ends (c .before .before .before .before .before .before .before .before .before .before .before .before) in let k = input-short (c .before .before .before .before .before .before .before .before .before .before .before .before .before .before .before) in omega (arith, h, k)
 
 sub-step : tie.Need-sub-step Inv-loop2 μ-loop2 Inv-loop μ-loop
-sub-step c = let h = ends (c .before) in omega (arith, h)
+sub-step c = let h = ends (c .before .before .before .before .before .before .before .before .before .before .before .before) in omega (arith, h)
 
 part-step-start : tie.Need-part-step-start Inv-loop2 μ-loop2 Inv-loop μ-loop
-part-step-start c = let h = ends (c .before) in omega (arith, h)
+part-step-start c = let h = ends (c .before .before .before .before .before .before .before .before .before .before .before .before) in omega (arith, h)
 
 part-step-end : tie.Need-part-step-end Inv-loop2 μ-loop2 Inv-loop μ-loop
-part-step-end c = let h = ends (c .before) in omega (arith, h)
+part-step-end c = let h = ends (c .before .before .before .before .before .before .before .before .before .before .before .before) in omega (arith, h)
 
 sub-step-2 : tie.Need-sub-step-2 Inv-loop2 μ-loop2 Inv-loop μ-loop
-sub-step-2 c = c .before .before .before .before .before .loop .inv .room
+sub-step-2 c = c .before .before .before .before .before .before .before .before .before .before .before .before .before .before .before .before .loop .inv .room
 
 part-step-start-2 : tie.Need-part-step-start-2 Inv-loop2 μ-loop2 Inv-loop μ-loop
-part-step-start-2 c = let r = c .before .before .before .before .before .loop .inv .room in omega (arith, r)
+part-step-start-2 c = let r = c .before .before .before .before .before .before .before .before .before .before .before .before .before .before .before .before .loop .inv .room in omega (arith, r)
 
 part-step-end-2 : tie.Need-part-step-end-2 Inv-loop2 μ-loop2 Inv-loop μ-loop
-part-step-end-2 c = let r = c .before .before .before .before .before .loop .inv .same in omega (arith, r)
+part-step-end-2 c = let r = c .before .before .before .before .before .before .before .before .before .before .before .before .before .before .before .before .loop .inv .same in omega (arith, r)
 
 step-requires : tie.Need-step-requires Inv-loop2 μ-loop2 Inv-loop μ-loop
 step-requires c κs =
-    let l = c .before .before .before .before .before .before .loop in
+    let t = c .before .before .before .before .before .before .before .before .before .before .before .before .before .before .before in
+    let l = loopOf t .loop in
+    let z = l .inv .sized in
     let left = room-left (l .inv) in
-    let r = roomy (c .before .before .before .before) in
-    (record { few = l .inv .given .few; tender = l .inv .given .tender }, omega (arith, left, r))
+    let r = roomy t in (
+      (
+        record { codes-length = z .codes-length; held-length = z .held-length; has-length = z .has-length },
+        sym (length-map (l .columns .rates) rateOf) ∙ z .rates-length,
+        sym (length-map (l .columns .amounts) amountOf) ∙ z .amounts-length,
+      ),
+      (record { few = l .inv .given .few; tender = l .inv .given .tender }, omega (arith, left, r)),
+    )
 
 enum-told : tie.Need-enum-told Inv-loop2 μ-loop2 Inv-loop μ-loop
 enum-told c = search needs
@@ -167,39 +201,39 @@ enum-told-2 c = search needs
 enum-known-change : tie.Need-enum-known-change Inv-loop2 μ-loop2 Inv-loop μ-loop
 enum-known-change c = search needs
 
-input-short : (c : tie.After-shared-slice-known Inv-loop2 μ-loop2 Inv-loop μ-loop) → length (now (c .before .args .input)) < 18446744073709551616
-input-short c = omega arith
-
 -- the parts of the journal and the field that a turn takes
 abbrev partsIn : tie.At-loop Inv-loop2 μ-loop2 Inv-loop μ-loop → Parts
-partsIn c = let l = c .loop in parts (l .opened) (l .codes) (l .n) (l .state) (l .terms) (l .book)
+partsIn c = let l = c .loop in parts (l .opened) (l .codes) (l .n) (l .state) (l .terms) (bookIn (l .columns))
 
 abbrev fieldIn : tie.After-length-at Inv-loop2 μ-loop2 Inv-loop μ-loop → List ℕ
 fieldIn c =
-    let l = c .before .before .before .loop in
-    let x = now (c .before .before .before .before .before .before .before .before .before .before .before .args .input) in
-    take (l .at + 3 + c .length-at .result - (l .at + 3)) (drop (l .at + 3) x)
+    let l = loopOf (c .before) .loop in
+    take (l .at + 3 + c .length-at .result - (l .at + 3)) (drop (l .at + 3) (now (startOf (loopOf (c .before)) .args .input)))
 
-can : (c : tie.After-step Inv-loop2 μ-loop2 Inv-loop μ-loop) → Possible (partsIn (c .before .before .before .before .before .before .before)) (fieldIn (c .before .before .before .before)) (c .step .result .accepted) (c .step .result .change)
+abbrev partsOf : tie.After-step Inv-loop2 μ-loop2 Inv-loop μ-loop → Parts
+partsOf c = partsIn (loopOf (headOf c .before))
+
+can : (c : tie.After-step Inv-loop2 μ-loop2 Inv-loop μ-loop) → Possible (partsOf c) (fieldIn (headOf c)) (c .step .result .accepted) (c .step .result .change)
 can c = c .step .ensures .can
 
+-- what the change that was found relies on
+can-be : (c : tie.After-step Inv-loop2 μ-loop2 Inv-loop μ-loop) (x : Change) → c .step .result .change ≡ x → Possible (partsOf c) (fieldIn (headOf c)) (c .step .result .accepted) x
+can-be c x e = subst (Possible (partsOf c) (fieldIn (headOf c)) (c .step .result .accepted)) e (can c)
+
 add-codes-in : tie.Need-add-codes-in Inv-loop2 μ-loop2 Inv-loop μ-loop
-add-codes-in c = let h = ends (c .before .before .before .before .before .before .before .before .before) in let k = input-short (c .before .before .before .before .before .before .before .before .before .before .before .before .before .before .before .before .before .before .before) in omega (arith, h, k)
+add-codes-in c = let h = ends (c .before .before .before .before .before .before .before .before .before .before .before .before .before .before .before .before .before .before .before .before) in let k = input-short (c .before .before .before .before .before .before .before .before .before .before .before .before .before .before .before .before .before .before .before .before .before .before .before) in omega (arith, h, k)
 
 sub-codes-in : tie.Need-sub-codes-in Inv-loop2 μ-loop2 Inv-loop μ-loop
-sub-codes-in c = let h = ends (c .before .before .before .before .before .before .before .before .before) in omega (arith, h)
+sub-codes-in c = let h = ends (c .before .before .before .before .before .before .before .before .before .before .before .before .before .before .before .before .before .before .before .before) in omega (arith, h)
 
 part-codes-in-start : tie.Need-part-codes-in-start Inv-loop2 μ-loop2 Inv-loop μ-loop
-part-codes-in-start c = let h = ends (c .before .before .before .before .before .before .before .before .before) in omega (arith, h)
+part-codes-in-start c = let h = ends (c .before .before .before .before .before .before .before .before .before .before .before .before .before .before .before .before .before .before .before .before) in omega (arith, h)
 
 part-codes-in-end : tie.Need-part-codes-in-end Inv-loop2 μ-loop2 Inv-loop μ-loop
-part-codes-in-end c = let h = ends (c .before .before .before .before .before .before .before .before .before) in omega (arith, h)
+part-codes-in-end c = let h = ends (c .before .before .before .before .before .before .before .before .before .before .before .before .before .before .before .before .before .before .before .before) in omega (arith, h)
 
 codes-in-requires : tie.Need-codes-in-requires Inv-loop2 μ-loop2 Inv-loop μ-loop
-codes-in-requires c κs =
-    let st = c .before .before .before .before .before .before in
-    let q = subst (Possible (partsIn (c .before .before .before .before .before .before .before .before .before .before .before .before .before)) (fieldIn (c .before .before .before .before .before .before .before .before .before .before)) (st .step .result .accepted)) (c .before .before .change .given .1) (can st) in
-    ((q .0, q .1), q .2)
+codes-in-requires c κs = let q = can-be (c .before .before .before .before .before .before) _ (c .before .before .change .given .1) in ((q .0, q .1), q .2)
 
 enum-told-3 : tie.Need-enum-told-3 Inv-loop2 μ-loop2 Inv-loop μ-loop
 enum-told-3 c = search needs
@@ -212,13 +246,16 @@ part-new-book-start c = search needs
 
 part-new-book-end : tie.Need-part-new-book-end Inv-loop2 μ-loop2 Inv-loop μ-loop
 part-new-book-end c =
-    let l = c .before .before .before .before .before .before .before .before .before .before .before .before .before .loop in
+    let l = c .before .before .before .before .before .before .before .before .before .before .before .before .before .before .before .before .before .before .before .before .before .before .before .before .loop in
     let f = l .inv .given .few in
     let n = l .inv .codes-length in
     omega (arith, f, n)
 
 new-book-requires : tie.Need-new-book-requires Inv-loop2 μ-loop2 Inv-loop μ-loop
 new-book-requires c κs = search needs
+
+columns-of-requires-2 : tie.Need-columns-of-requires-2 Inv-loop2 μ-loop2 Inv-loop μ-loop
+columns-of-requires-2 c κs = search needs
 
 enum-known-change-2 : tie.Need-enum-known-change-2 Inv-loop2 μ-loop2 Inv-loop μ-loop
 enum-known-change-2 c = search needs
@@ -227,8 +264,8 @@ enum-told-4 : tie.Need-enum-told-4 Inv-loop2 μ-loop2 Inv-loop μ-loop
 enum-told-4 c = search needs
 
 -- an accepted message has a place in the book, and ten places
-stands : (c : tie.After-enum-told4 Inv-loop2 μ-loop2 Inv-loop μ-loop) → Possible (partsIn (c .before .before .before .before .before .before .before .before .before .before .before)) (fieldIn (c .before .before .before .before .before .before .before .before)) (c .before .before .before .before .step .result .accepted) change.Accepted
-stands c = subst (Possible (partsIn (c .before .before .before .before .before .before .before .before .before .before .before)) (fieldIn (c .before .before .before .before .before .before .before .before)) (c .before .before .before .before .step .result .accepted)) (c .enum-told4 .given .1) (can (c .before .before .before .before))
+stands : (c : tie.After-enum-told4 Inv-loop2 μ-loop2 Inv-loop μ-loop) → Possible (partsOf (c .before .before .before .before)) (fieldIn (headOf (c .before .before .before .before))) (c .before .before .before .before .step .result .accepted) change.Accepted
+stands c = can-be (c .before .before .before .before) change.Accepted (c .enum-told4 .given .1)
 
 ten-places : (a : Accepted) (vs : List Val) → Is accepted-row.the-row a vs → (length (a .rates) ≡ 10) × (length (a .amounts) ≡ 10)
 ten-places a vs p = (search (needs, length-mapped), search (needs, length-mapped))
@@ -236,168 +273,177 @@ ten-places a vs p = (search (needs, length-mapped), search (needs, length-mapped
 taken-places : (c : tie.After-step Inv-loop2 μ-loop2 Inv-loop μ-loop) → (length (c .step .result .accepted .rates) ≡ 10) × (length (c .step .result .accepted .amounts) ≡ 10)
 taken-places c = ten-places (c .step .result .accepted) _ (c .step .ok .1 .1 .1 .1 .1 .0)
 
-mul-book : tie.Need-mul-book Inv-loop2 μ-loop2 Inv-loop μ-loop
-mul-book c =
+mul-columns : tie.Need-mul-columns Inv-loop2 μ-loop2 Inv-loop μ-loop
+mul-columns c =
     let h = stands (c .before) .1 in
     omega (arith, h)
 
-element-write-book : tie.Need-element-write-book Inv-loop2 μ-loop2 Inv-loop μ-loop
-element-write-book c =
+element-write-columns : tie.Need-element-write-columns Inv-loop2 μ-loop2 Inv-loop μ-loop
+element-write-columns c =
     let h = stands (c .before) .1 in
     omega (arith, h)
 
-element-write-book-2 : tie.Need-element-write-book-2 Inv-loop2 μ-loop2 Inv-loop μ-loop
-element-write-book-2 c =
+element-write-columns-2 : tie.Need-element-write-columns-2 Inv-loop2 μ-loop2 Inv-loop μ-loop
+element-write-columns-2 c =
     let h = stands (c .before) .1 in
     omega (arith, h)
 
 loop2-holds : tie.Need-loop2-holds Inv-loop2 μ-loop2 Inv-loop μ-loop
 loop2-holds c =
     let t = taken-places (c .before .before .before .before .before) in
-    let z = c .before .before .before .before .before .before .before .before .before .before .before .before .loop .inv .sized in
-    (omega arith, stands (c .before) .1, t .0, t .1, z .rates-length, z .amounts-length, refl)
+    let l = c .before .before .before .before .before .before .before .before .before .before .before .before .before .before .before .before .before .before .before .before .before .before .before .loop in
+    let z = l .inv .sized in
+    (omega arith, stands (c .before) .1, t .0, t .1, sym (length-map (l .columns .rates) rateOf) ∙ z .rates-length, sym (length-map (l .columns .amounts) amountOf) ∙ z .amounts-length, refl)
 
-mul-book-2 : tie.Need-mul-book-2 Inv-loop2 μ-loop2 Inv-loop μ-loop
-mul-book-2 c = let q = c .before .loop2 .inv in omega (arith, q .0, q .1)
+mul-columns-2 : tie.Need-mul-columns-2 Inv-loop2 μ-loop2 Inv-loop μ-loop
+mul-columns-2 c = let q = c .before .loop2 .inv in omega (arith, q .0, q .1)
 
-element-copy-out-book : tie.Need-element-copy-out-book Inv-loop2 μ-loop2 Inv-loop μ-loop
-element-copy-out-book c = let q = c .before .loop2 .inv in omega (arith, q .0, q .1)
+element-copy-out-columns : tie.Need-element-copy-out-columns Inv-loop2 μ-loop2 Inv-loop μ-loop
+element-copy-out-columns c = let q = c .before .loop2 .inv in omega (arith, q .0, q .1)
 
-mul-t66 : tie.Need-mul-t66 Inv-loop2 μ-loop2 Inv-loop μ-loop
-mul-t66 c = let q = c .before .before .loop2 .inv in omega (arith, q .0, q .1)
+mul-columns-3 : tie.Need-mul-columns-3 Inv-loop2 μ-loop2 Inv-loop μ-loop
+mul-columns-3 c = let q = c .before .loop2 .inv in omega (arith, q .0, q .1)
 
-add-t67 : tie.Need-add-t67 Inv-loop2 μ-loop2 Inv-loop μ-loop
-add-t67 c = let q = c .before .before .loop2 .inv in omega (arith, q .0, q .1)
+add-columns : tie.Need-add-columns Inv-loop2 μ-loop2 Inv-loop μ-loop
+add-columns c = let q = c .before .loop2 .inv in omega (arith, q .0, q .1)
 
-mul-t68 : tie.Need-mul-t68 Inv-loop2 μ-loop2 Inv-loop μ-loop
-mul-t68 c = let q = c .before .before .loop2 .inv in omega (arith, q .0, q .1)
+mul-columns-4 : tie.Need-mul-columns-4 Inv-loop2 μ-loop2 Inv-loop μ-loop
+mul-columns-4 c = let q = c .before .loop2 .inv in omega (arith, q .0, q .1)
 
-element-set-from-book : tie.Need-element-set-from-book Inv-loop2 μ-loop2 Inv-loop μ-loop
-element-set-from-book c = let q = c .before .before .loop2 .inv in omega (arith, q .0, q .1)
+element-write-columns-3 : tie.Need-element-write-columns-3 Inv-loop2 μ-loop2 Inv-loop μ-loop
+element-write-columns-3 c = let q = c .before .loop2 .inv in omega (arith, q .0, q .1)
 
-mul-book-3 : tie.Need-mul-book-3 Inv-loop2 μ-loop2 Inv-loop μ-loop
-mul-book-3 c = let q = c .before .before .loop2 .inv in omega (arith, q .0, q .1)
+mul-columns-5 : tie.Need-mul-columns-5 Inv-loop2 μ-loop2 Inv-loop μ-loop
+mul-columns-5 c = let q = c .before .loop2 .inv in omega (arith, q .0, q .1)
 
-element-copy-out-book-2 : tie.Need-element-copy-out-book-2 Inv-loop2 μ-loop2 Inv-loop μ-loop
-element-copy-out-book-2 c = let q = c .before .before .loop2 .inv in omega (arith, q .0, q .1)
+element-copy-out-columns-2 : tie.Need-element-copy-out-columns-2 Inv-loop2 μ-loop2 Inv-loop μ-loop
+element-copy-out-columns-2 c = let q = c .before .loop2 .inv in omega (arith, q .0, q .1)
 
-mul-t68-2 : tie.Need-mul-t68-2 Inv-loop2 μ-loop2 Inv-loop μ-loop
-mul-t68-2 c = let q = c .before .before .before .loop2 .inv in omega (arith, q .0, q .1)
+mul-columns-6 : tie.Need-mul-columns-6 Inv-loop2 μ-loop2 Inv-loop μ-loop
+mul-columns-6 c = let q = c .before .loop2 .inv in omega (arith, q .0, q .1)
 
-add-t67-2 : tie.Need-add-t67-2 Inv-loop2 μ-loop2 Inv-loop μ-loop
-add-t67-2 c = let q = c .before .before .before .loop2 .inv in omega (arith, q .0, q .1)
+add-columns-2 : tie.Need-add-columns-2 Inv-loop2 μ-loop2 Inv-loop μ-loop
+add-columns-2 c = let q = c .before .loop2 .inv in omega (arith, q .0, q .1)
 
-mul-t66-2 : tie.Need-mul-t66-2 Inv-loop2 μ-loop2 Inv-loop μ-loop
-mul-t66-2 c = let q = c .before .before .before .loop2 .inv in omega (arith, q .0, q .1)
+mul-columns-7 : tie.Need-mul-columns-7 Inv-loop2 μ-loop2 Inv-loop μ-loop
+mul-columns-7 c = let q = c .before .loop2 .inv in omega (arith, q .0, q .1)
 
-element-set-from-book-2 : tie.Need-element-set-from-book-2 Inv-loop2 μ-loop2 Inv-loop μ-loop
-element-set-from-book-2 c = let q = c .before .before .before .loop2 .inv in omega (arith, q .0, q .1)
+element-write-columns-4 : tie.Need-element-write-columns-4 Inv-loop2 μ-loop2 Inv-loop μ-loop
+element-write-columns-4 c = let q = c .before .loop2 .inv in omega (arith, q .0, q .1)
 
 add-i : tie.Need-add-i Inv-loop2 μ-loop2 Inv-loop μ-loop
-add-i c = let q = c .before .before .before .loop2 .inv in omega (arith, q .0, q .1)
+add-i c = let q = c .before .loop2 .inv in omega (arith, q .0, q .1)
 
 loop2-less : tie.Need-loop2-less Inv-loop2 μ-loop2 Inv-loop μ-loop
-loop2-less c = let q = c .before .before .before .loop2 .inv in omega (arith, q .0, q .1)
+loop2-less c = let q = c .before .loop2 .inv in omega (arith, q .0, q .1)
 
 loop2-again : tie.Need-loop2-again Inv-loop2 μ-loop2 Inv-loop μ-loop
 loop2-again c =
-    let l = c .before .before .before .loop2 in
+    let l = c .before .loop2 in
     let q = l .inv in
-    (omega (arith, q .0), q .1, q .2, q .3, q .4, q .5, one-placed _ (l .book) _ (l .i) _ _ noRate noAmount (omega (arith, q .0, q .2)) (omega (arith, q .0, q .3)) (q .6))
+    let a = c .before .before .before .before .before .before .before .step .result .accepted in
+    (omega (arith, q .0), q .1, q .2, q .3, q .4, q .5, one-placed _ (l .columns) (a .at) (l .i) (a .rates) (a .amounts) (omega (arith, q .0, q .2)) (omega (arith, q .0, q .3)) (q .6))
 
 -- the journal after a turn is that of the log after the field's change
 module _ (c : tie.At-match-came Inv-loop2 μ-loop2 Inv-loop μ-loop) where
+  abbrev stepped : tie.After-step Inv-loop2 μ-loop2 Inv-loop μ-loop
+  stepped = c .before .before .before
+
   abbrev before : Parts
-  before = partsIn (c .before .before .before .before .before .before .before .before .before .before)
+  before = partsOf stepped
 
   abbrev taken : Taken
-  taken = c .before .before .before .step .result
+  taken = stepped .step .result
 
   abbrev journal : Journal
-  journal = journalOf (c .match .ended) (parts (c .match .opened) (c .match .codes) (c .match .n) (c .match .state) (c .match .terms) (c .match .book))
+  journal = journalOf (c .match .ended) (parts (c .match .opened) (c .match .codes) (c .match .n) (c .match .state) (c .match .terms) (bookIn (c .match .columns)))
 
   abbrev Arrived : Change → Type 0
-  Arrived x = Arrives (after before (fieldIn (c .before .before .before .before .before .before .before)) (taken .terms) (taken .accepted) x) journal
+  Arrived x = Arrives (after before (fieldIn (headOf stepped)) (taken .terms) (taken .accepted) x) journal
 
   -- what a turn relies on
   given : steps.Given before
-  given = let i = c .before .before .before .before .before .before .before .before .before .before .loop .inv in record { few = i .given .few; tender = i .given .tender }
+  given = let i = loopOf (headOf stepped .before) .loop .inv in record { few = i .given .few; tender = i .given .tender }
 
   full : length (before .codes) ≡ 65
-  full = c .before .before .before .before .before .before .before .before .before .before .loop .inv .codes-length
+  full = loopOf (headOf stepped .before) .loop .inv .codes-length
 
   book-sized : Sized (before .book)
-  book-sized = c .before .before .before .before .before .before .before .before .before .before .loop .inv .sized
+  book-sized = loopOf (headOf stepped .before) .loop .inv .sized
 
-  unended-then : c .before .before .before .before .before .before .before .before .before .before .loop .ended ≡ false
-  unended-then = unended (c .before .before .before .before .before .before .before .before)
+  unended-then : loopOf (headOf stepped .before) .loop .ended ≡ false
+  unended-then = unended (headOf stepped .before)
 
   -- by the change that was found
-  by : (x : Change) → taken .change ≡ x → (Possible before (fieldIn (c .before .before .before .before .before .before .before)) (taken .accepted) x → Arrived x) → Arrived (taken .change)
-  by x e h = subst Arrived (sym e) (h (subst (Possible before (fieldIn (c .before .before .before .before .before .before .before)) (taken .accepted)) e (can (c .before .before .before))))
+  by : (x : Change) → taken .change ≡ x → (Possible before (fieldIn (headOf stepped)) (taken .accepted) x → Arrived x) → Arrived (taken .change)
+  by x e h = subst Arrived (sym e) (h (can-be stepped x e))
 
   arrived : Arrived (taken .change)
   arrived = elim (c .match .came) [
-    | inl x ↦ by change.None (x .1 .given .1) (λ q. arrives-at (λ i. journalOf ((x .2 ∙ unended-then) i) (parts (x .3 i) (x .4 i) (x .5 i) (x .6 i) (x .7 i) (x .8 i))) (unchanged before given full book-sized))
-    | inr (inl x) ↦ by change.Ended (x .1 .given .1) (λ q. arrives-at (λ i. journalOf (x .2 i) (parts (x .3 i) (x .4 i) (x .5 i) (x .6 i) (x .7 i) (x .8 i))) (ended before given full book-sized))
+    | inl x ↦ by change.None (x .1 .given .1) (λ q. arrives-at (λ i. journalOf ((x .2 ∙ unended-then) i) (parts (x .3 i) (x .4 i) (x .5 i) (x .6 i) (x .7 i) (bookIn (x .8 i)))) (unchanged before given full book-sized))
+    | inr (inl x) ↦ by change.Ended (x .1 .given .1) (λ q. arrives-at (λ i. journalOf (x .2 i) (parts (x .3 i) (x .4 i) (x .5 i) (x .6 i) (x .7 i) (bookIn (x .8 i)))) (ended before given full book-sized))
     | inr (inr (inl x)) ↦
         by (change.Admitted (x .1 .given .0 .0)) (x .1 .given .1)
-        (λ q. arrives-at (λ i. journalOf ((x .5 ∙ unended-then) i) (parts (x .6 i) (x .7 i) (x .8 i) (x .9 i) (x .10 i) (x .11 i))) (admitted before given full book-sized (fieldIn (c .before .before .before .before .before .before .before)) (x .4 .result) (x .1 .given .0 .0) (x .4 .ensures .0) (q .0) (x .4 .ensures .1)))
+        (λ q. arrives-at (λ i. journalOf ((x .5 ∙ unended-then) i) (parts (x .6 i) (x .7 i) (x .8 i) (x .9 i) (x .10 i) (bookIn (x .11 i)))) (admitted before given full book-sized (fieldIn (headOf stepped)) (x .4 .result) (x .1 .given .0 .0) (x .4 .ensures .0) (q .0) (x .4 .ensures .1)))
     | inr (inr (inr (inl x))) ↦
         by change.Opened (x .1 .given .1)
-        (λ q. arrives-at (λ i. journalOf ((x .6 ∙ unended-then) i) (parts (x .7 i) (x .8 i) (x .9 i) (x .10 i) (x .11 i) (x .12 i)))
+        (λ q. arrives-at (λ i. journalOf ((x .7 ∙ unended-then) i) (parts (x .8 i) (x .9 i) (x .10 i) (x .11 i) (x .12 i) ((ap bookIn (x .13) ∙ of-book (x .5 .result) (x .6 .result) (x .6 .ensures)) i)))
         (opened before given full book-sized (taken .terms) (x .5 .result) (q .0) (q .1) (x .5 .ensures ∙ ap (λ (k : ℕ). newBook (take 64 (take k (before .codes)))) (sub-zero (before .n))) (sized (x .5 .result) _ (x .5 .ok))))
-    | inr (inr (inr (inr (inl x)))) ↦ by (change.InState (x .1 .given .0 .0)) (x .1 .given .1) (λ q. arrives-at (λ i. journalOf ((x .3 ∙ unended-then) i) (parts (x .4 i) (x .5 i) (x .6 i) (x .7 i) (x .8 i) (x .9 i))) (in-state before given full book-sized (x .1 .given .0 .0) q))
+    | inr (inr (inr (inr (inl x)))) ↦ by (change.InState (x .1 .given .0 .0)) (x .1 .given .1) (λ q. arrives-at (λ i. journalOf ((x .3 ∙ unended-then) i) (parts (x .4 i) (x .5 i) (x .6 i) (x .7 i) (x .8 i) (bookIn (x .9 i)))) (in-state before given full book-sized (x .1 .given .0 .0) q))
     | inr (inr (inr (inr (inr x)))) ↦
-        let t = taken-places (c .before .before .before) in
+        let t = taken-places stepped in
+        let l = loopOf (headOf stepped .before) .loop in
+        let a = taken .accepted in
         by change.Accepted (x .1 .given .1)
-        (λ q. arrives-at (λ i. journalOf ((x .5 ∙ unended-then) i) (parts (x .6 i) (x .7 i) (x .8 i) (x .9 i) (x .10 i) ((x .11 ∙ x .3 .inv .6) i)))
-        (accepted before given full book-sized (taken .accepted) (q .0) (q .1) (t .0) (t .1) (x .3 .i) (omega (arith, x .3 .inv .0, x .4 .left))))
+        (λ q. arrives-at (λ i. journalOf ((x .5 ∙ unended-then) i) (parts (x .6 i) (x .7 i) (x .8 i) (x .9 i) (x .10 i) ((ap bookIn (x .11 ∙ x .3 .inv .6) ∙ book-placed (l .columns) (a .at) (a .time) (x .3 .i) (a .rates) (a .amounts)) i)))
+        (accepted before given full book-sized a (q .0) (q .1) (t .0) (t .1) (x .3 .i) (omega (arith, x .3 .inv .0, x .4 .left))))
   ]
 
 add-length : tie.Need-add-length Inv-loop2 μ-loop2 Inv-loop μ-loop
 add-length c =
     let w = c .before .before .before .before .step in
-    let l = c .before .before .before .before .before .before .before .before .before .before .before .loop in
-    let h = wrote-within _ _ _ (w .result .length) (w .ensures .lines) (w .kept .1 .1 .1 .1 .1 .1 .1 .1 .0) in
+    let l = c .before .before .before .before .before .before .before .before .before .before .before .before .before .before .before .before .before .before .before .before .before .before .loop in
+    let h = wrote-within _ _ _ (w .result .length) (w .ensures .lines) (w .kept .1 .1 .1 .1 .1 .1 .1 .1 .1 .1 .1 .1 .1 .0) in
     let r = room-left (l .inv) in
     let o = l .inv .room in
-    let k = space-short (c .before .before .before .before .before .before .before .before .before .before .before .before .before .before .before .before .before) in
+    let k = space-short (c .before .before .before .before .before .before .before .before .before .before .before .before .before .before .before .before .before .before .before .before .before .before .before .before .before .before .before .before .before) in
     omega (arith, h, r, o, k)
 
 loop-less : tie.Need-loop-less Inv-loop2 μ-loop2 Inv-loop μ-loop
-loop-less c = let h = ends (c .before .before .before .before .before .before .before .before) in omega (arith, h)
+loop-less c = let h = ends (c .before .before .before .before .before .before .before .before .before .before .before .before .before .before .before .before .before .before .before) in omega (arith, h)
 
 loop-again : tie.Need-loop-again Inv-loop2 μ-loop2 Inv-loop μ-loop
 loop-again c =
-    let l = c .before .before .before .before .before .before .before .before .before .before .before .loop in
-    let n = c .before .before .before .before .before .before .before .before .length-at in
-    let w = c .before .before .before .before .step in
-    let x = now (c .before .before .before .before .before .before .before .before .before .before .before .before .before .before .before .before .before .before .before .args .input) in
-    let p = partsIn (c .before .before .before .before .before .before .before .before .before .before .before) in
-    let then = c .before .before .before .before .before .before .before .before .before in
-    one-logged (l .inv) _ (l .at + 3 + n .result) (w .result .length) (w .last .1 .1 .1 .1 .1 .1 .1 .1 .0)
-    (from-parts (l .ended) p (unended then) (field-taken x (l .at) (n .result) (n .ensures .0) p _ _ (w .result) (field-there then) (w .ensures)))
-    (w .kept .1 .1 .1 .1 .1 .1 .1 .1 .0) (ends (c .before .before .before .before .before .before .before .before)) (arrived (c .before))
+    let st = c .before .before .before .before in
+    let head = headOf st in
+    let l = loopOf (head .before) .loop in
+    let n = head .length-at in
+    let w = st .step in
+    one-logged (l .inv) _ (l .at + 3 + n .result) (w .result .length) (w .last .1 .1 .1 .1 .1 .1 .1 .1 .1 .1 .1 .1 .1 .0)
+    (from-parts (l .ended) (partsOf st) (unended (head .before)) (field-taken (now (startOf (loopOf (head .before)) .args .input)) (l .at) (n .result) (n .ensures .0) (partsOf st) _ _ (w .result) (field-there (head .before)) (w .ensures)))
+    (w .kept .1 .1 .1 .1 .1 .1 .1 .1 .1 .1 .1 .1 .1 .0) (ends head) (arrived (c .before))
+
+book-of-requires : tie.Need-book-of-requires Inv-loop2 μ-loop2 Inv-loop μ-loop
+book-of-requires c κs = search needs
 
 tender-of-requires : tie.Need-tender-of-requires Inv-loop2 μ-loop2 Inv-loop μ-loop
 tender-of-requires c κs = search needs
 
 same-length : tie.Need-same-length Inv-loop2 μ-loop2 Inv-loop μ-loop
-same-length c = c .before .before .before .loop .inv .same
+same-length c = c .before .before .before .before .loop .inv .same
 
 returns : tie.Need-returns Inv-loop2 μ-loop2 Inv-loop μ-loop
 returns c =
-    let l = c .before .before .before .loop in
-    let start = c .before .before .before .before .before .before .before .before .before .before .before in
-    let first = whole-journal (c .before .before .before .before) in
-    let last : journalOf (l .ended) (partsIn (c .before .before .before)) ≡ record { ended = l .ended; opened = l .opened; codes = l .codes; n = l .n; tender = c .tender-of .result } =
-    λ i. record { ended = l .ended; opened = l .opened; codes = l .codes; n = l .n; tender = sym (c .tender-of .ensures) i } in
+    let l = c .before .before .before .before .loop in
+    let start = c .before .before .before .before .before .before .before .before .before .before .before .before .before in
+    let first = whole-journal (c .before .before .before .before .before) in
+    let last : journalOf (l .ended) (partsIn (c .before .before .before .before)) ≡ record { ended = l .ended; opened = l .opened; codes = l .codes; n = l .n; tender = c .tender-of .result } =
+    λ i. record { ended = l .ended; opened = l .opened; codes = l .codes; n = l .n; tender = sym (c .tender-of .ensures ∙ λ k. record { state = l .state; terms = l .terms; book = c .before .book-of .ensures k }) i } in
     record {
       runs = starts-from (ap viewed first) (leads-to (ap viewed last) (l .inv .runs));
       within = l .inv .within;
       room = l .inv .room;
-      all = ap (λ (b : Bool). b && not (l .ended) && leb 23040 (length (now (start .args .space)) - l .length)) (sym (c .before .before .holds-field .ensures)) ∙ c .before .if1 .left;
+      all = ap (λ (b : Bool). b && not (l .ended) && leb 23040 (length (now (start .args .space)) - l .length)) (sym (c .before .before .before .holds-field .ensures)) ∙ c .before .before .if1 .left;
       given = subst Given last (l .inv .given);
     }
 
@@ -412,6 +458,7 @@ run-spec =
     state-requires
     terms-requires
     book-requires
+    columns-of-requires
     loop-holds
     holds-field-requires
     sub-if1
@@ -440,30 +487,32 @@ run-spec =
     part-new-book-start
     part-new-book-end
     new-book-requires
+    columns-of-requires-2
     enum-known-change-2
     enum-told-4
-    mul-book
-    element-write-book
-    element-write-book-2
+    mul-columns
+    element-write-columns
+    element-write-columns-2
     loop2-holds
-    mul-book-2
-    element-copy-out-book
-    mul-t66
-    add-t67
-    mul-t68
-    element-set-from-book
-    mul-book-3
-    element-copy-out-book-2
-    mul-t68-2
-    add-t67-2
-    mul-t66-2
-    element-set-from-book-2
+    mul-columns-2
+    element-copy-out-columns
+    mul-columns-3
+    add-columns
+    mul-columns-4
+    element-write-columns-3
+    mul-columns-5
+    element-copy-out-columns-2
+    mul-columns-6
+    add-columns-2
+    mul-columns-7
+    element-write-columns-4
     add-i
     loop2-less
     loop2-again
     add-length
     loop-less
     loop-again
+    book-of-requires
     tender-of-requires
     same-length
     returns)

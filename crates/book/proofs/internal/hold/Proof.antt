@@ -81,7 +81,7 @@ has-length : (c : tie.Start Inv-loop μ-loop) → length (c .args .b .has) ≡ 6
 has-length c = search (needs, length-mapped)
 
 sized : (c : tie.Start Inv-loop μ-loop) → Sized (c .args .b)
-sized c = record { held-length = held-length c; has-length = has-length c; rates-length = rates-length c; amounts-length = amounts-length c }
+sized c = record { codes-length = search needs; held-length = held-length c; has-length = has-length c; rates-length = rates-length c; amounts-length = amounts-length c }
 
 new-rates-length : (c : tie.Start Inv-loop μ-loop) → length (c .args .t4) ≡ 10
 new-rates-length c = search needs

@@ -6,6 +6,7 @@ use borrow.Author.Tests.{not-true, not-false}
 use Rattle.envelope.specs.Refusals.{unlessRefused}
 use Rattle.rules.specs.Calls as rules
 use Rattle.rules.specs.Calls.{allottingRefused}
+use Rattle.book.specs.Viewed.{bookOf}
 use Rattle.log.specs.Steps.{onTender, allotted, allotting}
 use Rattle.tender.specs.declared.State.the-variants as state
 use Rattle.steps.specs.Parts.{Parts, parts, tenderIn, viewed, withTender}
@@ -19,9 +20,9 @@ with-change-requires c κs = search needs
 
 returns : tie.Need-returns
 unfolding allotting
-returns c codes n g =
-    let a = c .before .before .before .before .args in
-    let p = parts (a .opened) codes n (a .state) (a .terms) (a .book) in
+returns c codes n held has g =
+    let a = c .before .before .before .before .before .before .before .args in
+    let p = parts (a .opened) codes n (a .state) (a .terms) (bookOf (a .k) (now (a .admitted)) held has (now (a .rates)) (now (a .amounts))) in
     takes-as (other-length 0 allotted (viewed p) (now (a .s)) (c .before .if1 .taken)) (takes-ended p g (now (a .s)) (now (a .space)) (c .with-change .result) (c .with-change .ensures .1) (c .with-change .ensures .0))
 
 with-change-requires-2 : tie.Need-with-change-requires-2
@@ -29,10 +30,10 @@ with-change-requires-2 c κs = search needs
 
 returns-2 : tie.Need-returns-2
 unfolding allotting
-returns-2 c codes n g =
-    let a = c .before .before .before .before .before .args in
+returns-2 c codes n held has g =
+    let a = c .before .before .before .before .before .before .before .before .args in
     let s = now (a .s) in
-    let p = parts (a .opened) codes n (a .state) (a .terms) (a .book) in
+    let p = parts (a .opened) codes n (a .state) (a .terms) (bookOf (a .k) (now (a .admitted)) held has (now (a .rates)) (now (a .amounts))) in
     takes-as (no-tender p allotted (not-true _ (c .before .if2 .taken)) ∙ its-length 0 allotted (viewed p) s (c .before .before .if1 .left)) (takes-skipped p g s (now (a .space)) (c .with-change2 .result) (c .with-change2 .ensures .1) (c .with-change2 .ensures .0))
 
 put-allotment-requires : tie.Need-put-allotment-requires
@@ -49,14 +50,14 @@ called p o = on-tender p allotted o
 
 returns-3 : tie.Need-returns-3
 unfolding allotting
-returns-3 c codes n g =
+returns-3 c codes n held has g =
     let w = c .before .before .put-allotment in
-    let a = c .before .before .before .before .before .before .before .before .args in
+    let a = c .before .before .before .before .before .before .before .before .before .before .before .args in
     let s = now (a .s) in
-    let p = parts (a .opened) codes n (a .state) (a .terms) (a .book) in
+    let p = parts (a .opened) codes n (a .state) (a .terms) (bookOf (a .k) (now (a .admitted)) held has (now (a .rates)) (now (a .amounts))) in
     let o = not-false _ (c .before .before .before .before .if2 .left) in
     takes-as (called p o ∙ its-length 0 allotted (viewed p) s (c .before .before .before .before .before .if1 .left))
-    (takes-state p g s (now (a .space)) (w .result) state.Announced (allottingRefused (tenderIn p)) (allotted (tenderIn p) .1) (w .last .1 .1 .1 .0) o (w .ensures .1) (w .ensures .0))
+    (takes-state p g s (now (a .space)) (w .result) state.Announced (allottingRefused (tenderIn p)) (allotted (tenderIn p) .1) (w .last .1 .1 .1 .1 .1 .1 .0) o (w .ensures held has .change-is) (w .ensures held has .lines))
 
 pub allotting-spec : {M : Type 1} → statement M
 allotting-spec =

@@ -1,18 +1,23 @@
 -- `steps::fields::put_allotment` meets its contract. Assumes nothing.
-use mathlib.Core.Path.{_≡_, sym, ap, subst, _∙_}
+use mathlib.Core.Path.{_≡_, refl, sym, ap, subst, _∙_}
+use mathlib.Core.Bool.{Bool}
 use mathlib.Core.List.{List}
 use mathlib.Core.Option.{Option}
 use Prim.Native.Nat.{ℕ, _*_, _-_, _≤_}
 use native.Mathlib.Nat.{sub-zero}
 use native.Mathlib.Omega.{arith}
+use denote.Ref.{now}
 use lib.ListN.{length, take, drop, length-replicate, length-append}
 use Rattle.output.specs.Output.{Wrote}
 use Rattle.output.proofs.Output.{said}
 use Rattle.envelope.specs.Refusals.{unlessRefused}
+use Rattle.rules.specs.Calls.{bidsInBook}
 use Rattle.bids.specs.Columns.{bidsOf}
-use Rattle.book.specs.Viewed.{upTo64}
+use Rattle.book.specs.declared.Book.{Book}
+use Rattle.book.specs.Viewed as book
+use Rattle.book.specs.Viewed.{bookOf}
 use Rattle.book.proofs.Empty.{upTo64-small}
-use Rattle.book.proofs.Order.{codes-viewed}
+use Rattle.book.proofs.Order.{codes-viewed, bids-lent}
 use Rattle.log.specs.Lines.{refusedLine}
 use Rattle.tender.specs.declared.Tender.{Tender}
 use Rattle.tender.specs.declared.State.the-variants as state
@@ -31,63 +36,88 @@ up-to-64-requires c κs = search needs
 
 -- at most 64 codes, with ten places each
 few : (c : tie.After-up-to-64) → c .up-to-64 .result ≤ 64
-few c = omega (arith, c .up-to-64 .ensures, upTo64-small (c .before .before .args .book .n) .0)
+few c = omega (arith, c .up-to-64 .ensures, upTo64-small (c .before .before .before .before .before .args .k) .0)
 
-room : (c : tie.After-no-amounts) → length (c .no-amounts .result) ≡ 640
-room c = ap length (c .no-amounts .ensures) ∙ length-replicate {A = ℕ} 640 0
+room : (c : tie.After-no-awards) → length (c .no-awards .result) ≡ 640
+room c = ap length (c .no-awards .ensures) ∙ length-replicate {A = ℕ} 640 0
 
-places : (c : tie.After-up-to-64) → 10 * c .up-to-64 .result ≡ 10 * upTo64 (c .before .before .args .book .n)
-places c = ap (λ (k : ℕ). 10 * k) (c .up-to-64 .ensures)
+-- a book that lends these columns
+bookWith : tie.Start → List ℕ → List Bool → Book
+bookWith c held has = bookOf (c .args .k) (now (c .args .admitted)) held has (now (c .args .rates)) (now (c .args .amounts))
+
+-- the bids that are lent are those of the book
+bids-are : (c : tie.After-up-to-64) (held : List ℕ) (has : List Bool)
+    → (let start = c .before .before .before .before .before in
+    let n = 10 * c .up-to-64 .result in
+    bidsOf (take (n - 0) (now (start .args .rates))) (take (n - 0) (now (start .args .amounts))) ≡ bidsInBook (book.viewed (bookWith start held has)))
+unfolding bookWith
+bids-are c held has =
+    let start = c .before .before .before .before .before in
+    let a = start .args in
+    ap (λ (n : ℕ). bidsOf (take n (now (a .rates))) (take n (now (a .amounts)))) (sub-zero _ ∙ ap (λ (n : ℕ). 10 * n) (c .up-to-64 .ensures))
+    ∙ bids-lent (a .k) (now (a .admitted)) held has (now (a .rates)) (now (a .amounts)) (start .pre .0 .1) (start .pre .0 .2)
 
 mul-end : tie.Need-mul-end
 mul-end c = let e = few c in omega (arith, e)
 
-no-rates-requires : tie.Need-no-rates-requires
-no-rates-requires c κs = search needs
+no-awards-requires : tie.Need-no-awards-requires
+no-awards-requires c κs = search needs
 
-no-amounts-requires : tie.Need-no-amounts-requires
-no-amounts-requires c κs = search needs
+sub-allot-bids : tie.Need-sub-allot-bids
+sub-allot-bids c = search needs
 
-sub-allot-book : tie.Need-sub-allot-book
-sub-allot-book c = search needs
+part-allot-bids-start : tie.Need-part-allot-bids-start
+part-allot-bids-start c = search needs
 
-part-rates-start : tie.Need-part-rates-start
-part-rates-start c = search needs
+part-allot-bids-end : tie.Need-part-allot-bids-end
+part-allot-bids-end c =
+    let u = c .before in
+    let e = few u in
+    omega (arith, e, u .before .before .before .before .before .pre .0 .1)
 
-part-rates-end : tie.Need-part-rates-end
-part-rates-end c = let e = few (c .before .before) in omega (arith, e, c .before .no-rates .ensures)
+sub-allot-bids-2 : tie.Need-sub-allot-bids-2
+sub-allot-bids-2 c = search needs
 
-sub-allot-book-2 : tie.Need-sub-allot-book-2
-sub-allot-book-2 c = search needs
+part-allot-bids-start-2 : tie.Need-part-allot-bids-start-2
+part-allot-bids-start-2 c = search needs
+
+part-allot-bids-end-2 : tie.Need-part-allot-bids-end-2
+part-allot-bids-end-2 c =
+    let u = c .before .before in
+    let e = few u in
+    omega (arith, e, u .before .before .before .before .before .pre .0 .2)
+
+sub-allot-bids-3 : tie.Need-sub-allot-bids-3
+sub-allot-bids-3 c = search needs
 
 part-awards-start : tie.Need-part-awards-start
 part-awards-start c = search needs
 
 part-awards-end : tie.Need-part-awards-end
-part-awards-end c = let e = few (c .before .before .before) in let r = room (c .before) in omega (arith, e, r)
+part-awards-end c =
+    let e = few (c .before .before .before) in
+    let r = room (c .before .before) in
+    omega (arith, e, r)
 
-allot-book-requires : tie.Need-allot-book-requires
-allot-book-requires c κs =
+allot-bids-requires : tie.Need-allot-bids-requires
+allot-bids-requires c κs =
     let u = c .before .before .before .before in
+    let start = u .before .before .before .before .before in
     let e = few u in
-    let r = room (c .before .before) in (
-      lent-length (c .before .before .before .no-rates .result) (10 * u .up-to-64 .result) (omega (arith, e, c .before .before .before .no-rates .ensures)) ∙ places u,
-      lent-length (c .before .before .no-amounts .result) (10 * u .up-to-64 .result) (omega (arith, e, r)) ∙ places u,
-    )
+    let r = room (c .before .before .before) in
+    let n = 10 * u .up-to-64 .result in
+    let rates = lent-length (now (start .args .rates)) n (omega (arith, e, start .pre .0 .1)) in
+    let amounts = lent-length (now (start .args .amounts)) n (omega (arith, e, start .pre .0 .2)) in
+    let awards = lent-length (c .before .before .before .no-awards .result) n (omega (arith, e, r)) in
+    (omega (arith, rates, amounts), omega (arith, amounts, awards), omega (arith, amounts, e))
 
--- what the allotment wrote, rates and awards, is as long as what was lent
-rates-long : (c : tie.After-allot-book) → length (c .allot-book .last .1 .1 .1 .0) ≡ 10 * c .before .before .before .before .before .up-to-64 .result
-rates-long c =
-    let u = c .before .before .before .before .before in
-    let e = few u in
-    c .allot-book .kept .1 .1 .1 .0 ∙ lent-length (c .before .before .before .before .no-rates .result) (10 * u .up-to-64 .result) (omega (arith, e, c .before .before .before .before .no-rates .ensures))
-
-awards-long : (c : tie.After-allot-book) → length (c .allot-book .last .1 .1 .1 .1 .0) ≡ 10 * c .before .before .before .before .before .up-to-64 .result
+-- the awards that were written are as long as what was lent
+awards-long : (c : tie.After-allot-bids) → length (c .allot-bids .last .1 .1 .1 .1 .0) ≡ 10 * c .before .before .before .before .before .up-to-64 .result
 awards-long c =
     let u = c .before .before .before .before .before in
     let e = few u in
-    let r = room (c .before .before .before) in
-    c .allot-book .kept .1 .1 .1 .1 .0 ∙ lent-length (c .before .before .before .no-amounts .result) (10 * u .up-to-64 .result) (omega (arith, e, r))
+    let r = room (c .before .before .before .before) in
+    c .allot-bids .kept .1 .1 .1 .1 .0 ∙ lent-length (c .before .before .before .before .no-awards .result) (10 * u .up-to-64 .result) (omega (arith, e, r))
 
 is-refused-requires : tie.Need-is-refused-requires
 is-refused-requires c κs = search needs
@@ -105,18 +135,22 @@ same-length : tie.Need-same-length
 same-length c = search needs
 
 returns : tie.Need-returns
-returns c =
-    let k = c .before .before .before .before .before .before .before .before .before .before .allot-book in
-    let a = c .before .before .before .before .before .before .before .before .before .before .before .before .before .before .before .before .before .args in
-    let t : Tender = tenderOf (a .state) (a .terms) (a .book) in
-    let l = numberOf (k .result .refusal) in
+unfolding bookWith
+returns c held has =
+    let k = c .before .before .before .before .before .before .before .before .before in
+    let u = k .before .before .before .before .before in
+    let start = u .before .before .before .before .before in
+    let b = bookWith start held has in
+    let t : Tender = tenderOf (start .args .state) (start .args .terms) b in
+    let l = numberOf (k .allot-bids .result .refusal) in
     let h = sym (c .before .before .before .before .before .before .before .is-refused .ensures) ∙ c .before .before .before .before .before .before .if1 .taken in
     let w = c .before .before .before .put-refused in
     let q = c .with-change .ensures in
-    let n = k .ensures .1 .number in (
-      subst (Wrote _ 0 _ _) (sym (q .0)) (said (ap refusedLine (c .before .before .before .before .number-of .ensures) ∙ lines-refused (tender.viewed t) l n h) (w .ensures)),
-      q .1 ∙ sym (kept-old l change.None (change.InState state.Announced) h) ∙ ap (λ (x : Option ℕ). unlessRefused x change.None (change.InState state.Announced)) n,
-    )
+    let n = k .allot-bids .ensures b (bids-are u held has) .number in
+    record {
+      lines = subst (Wrote _ 0 _ _) (sym (q .0)) (said (ap refusedLine (c .before .before .before .before .number-of .ensures) ∙ lines-refused (tender.viewed t) l n h) (w .ensures));
+      change-is = q .1 ∙ sym (kept-old l change.None (change.InState state.Announced) h) ∙ ap (λ (x : Option ℕ). unlessRefused x change.None (change.InState state.Announced)) n;
+    }
 
 sub-put-awards : tie.Need-sub-put-awards
 sub-put-awards c = search needs
@@ -124,15 +158,11 @@ sub-put-awards c = search needs
 part-put-awards-start : tie.Need-part-put-awards-start
 part-put-awards-start c = search needs
 
--- the first codes of the book, its rates and its awards are lent again
-codes-full : (c : tie.Start) → length (c .args .book .codes) ≡ 64
-codes-full c = search needs
-
 part-put-awards-end : tie.Need-part-put-awards-end
 part-put-awards-end c =
-    let e = few (c .before .before .before .before .before .before .before .before .before .before .before .before) in
-    let n = codes-full (c .before .before .before .before .before .before .before .before .before .before .before .before .before .before) in
-    omega (arith, e, n)
+    let u = c .before .before .before .before .before .before .before .before .before in
+    let e = few u in
+    omega (arith, e, u .before .before .before .before .before .pre .0 .0)
 
 sub-put-awards-2 : tie.Need-sub-put-awards-2
 sub-put-awards-2 c = search needs
@@ -142,8 +172,9 @@ part-put-awards-start-2 c = search needs
 
 part-put-awards-end-2 : tie.Need-part-put-awards-end-2
 part-put-awards-end-2 c =
-    let r = rates-long (c .before .before .before .before .before .before .before .before .before) in
-    omega (arith, r, length-append (c .before .before .before .before .before .before .before .before .before .allot-book .last .1 .1 .1 .0) (drop (10 * c .before .before .before .before .before .before .before .before .before .before .before .before .before .before .up-to-64 .result - 0) (c .before .before .before .before .before .before .before .before .before .before .before .before .before .no-rates .result)))
+    let u = c .before .before .before .before .before .before .before .before .before .before in
+    let e = few u in
+    omega (arith, e, u .before .before .before .before .before .pre .0 .1)
 
 sub-put-awards-3 : tie.Need-sub-put-awards-3
 sub-put-awards-3 c = search needs
@@ -153,21 +184,21 @@ part-put-awards-start-3 c = search needs
 
 part-put-awards-end-3 : tie.Need-part-put-awards-end-3
 part-put-awards-end-3 c =
-    let r = awards-long (c .before .before .before .before .before .before .before .before .before .before .before) in
-    omega (arith, r, length-append (c .before .before .before .before .before .before .before .before .before .before .before .allot-book .last .1 .1 .1 .1 .0) (drop (10 * c .before .before .before .before .before .before .before .before .before .before .before .before .before .before .before .before .up-to-64 .result - 0) (c .before .before .before .before .before .before .before .before .before .before .before .before .before .before .no-amounts .result)))
+    let k = c .before .before .before .before .before .before .before in
+    let r = awards-long k in
+    omega (arith, r, length-append (k .allot-bids .last .1 .1 .1 .1 .0) (drop (10 * k .before .before .before .before .before .up-to-64 .result - 0) (k .before .before .before .before .no-awards .result)))
 
 put-awards-requires : tie.Need-put-awards-requires
 put-awards-requires c κs =
-    let k = c .before .before .before .before .before .before .before .before .before .before .before .before in
-    let u = c .before .before .before .before .before .before .before .before .before .before .before .before .before .before .before .before .before in
-    let start = c .before .before .before .before .before .before .before .before .before .before .before .before .before .before .before .before .before .before .before in
+    let k = c .before .before .before .before .before .before .before .before in
+    let u = k .before .before .before .before .before in
+    let start = u .before .before .before .before .before in
     let n = u .up-to-64 .result in
     let e = few u in
-    let full = codes-full start in
-    let cs = lent-length (start .args .book .codes) n (omega (arith, e, full)) in
-    let rs = ap length (lent-again (k .allot-book .last .1 .1 .1 .0) (drop (10 * n - 0) (c .before .before .before .before .before .before .before .before .before .before .before .before .before .before .before .before .no-rates .result)) (10 * n) (rates-long k)) ∙ rates-long k in
-    let xs = ap length (lent-again (k .allot-book .last .1 .1 .1 .1 .0) (drop (10 * n - 0) (c .before .before .before .before .before .before .before .before .before .before .before .before .before .before .before .no-amounts .result)) (10 * n) (awards-long k)) ∙ awards-long k in
-    (rs ∙ sym (ap (λ (m : ℕ). 10 * m) cs), xs ∙ sym (ap (λ (m : ℕ). 10 * m) cs), omega (arith, xs, e, start .pre))
+    let cs = lent-length (now (start .args .admitted)) n (omega (arith, e, start .pre .0 .0)) in
+    let rs = lent-length (now (start .args .rates)) (10 * n) (omega (arith, e, start .pre .0 .1)) in
+    let xs = ap length (lent-again (k .allot-bids .last .1 .1 .1 .1 .0) (drop (10 * n - 0) (k .before .before .before .before .no-awards .result)) (10 * n) (awards-long k)) ∙ awards-long k in
+    (rs ∙ sym (ap (λ (m : ℕ). 10 * m) cs), xs ∙ sym (ap (λ (m : ℕ). 10 * m) cs), omega (arith, xs, e, start .pre .1))
 
 with-change-requires-2 : tie.Need-with-change-requires-2
 with-change-requires-2 c κs = search needs
@@ -176,27 +207,25 @@ same-length-2 : tie.Need-same-length-2
 same-length-2 c = search needs
 
 returns-2 : tie.Need-returns-2
-returns-2 c =
-    let k = c .before .before .before .before .before .before .before .before .before .before .before .before .before .before .before .before in
-    let u = c .before .before .before .before .before .before .before .before .before .before .before .before .before .before .before .before .before .before .before .before .before in
-    let start = c .before .before .before .before .before .before .before .before .before .before .before .before .before .before .before .before .before .before .before .before .before .before .before in
-    let a = start .args in
-    let t : Tender = tenderOf (a .state) (a .terms) (a .book) in
+unfolding bookWith
+returns-2 c held has =
+    let k = c .before .before .before .before .before .before .before .before .before .before .before .before in
+    let u = k .before .before .before .before .before in
+    let start = u .before .before .before .before .before in
+    let b = bookWith start held has in
+    let t : Tender = tenderOf (start .args .state) (start .args .terms) b in
     let n = u .up-to-64 .result in
-    let l = numberOf (k .allot-book .result .refusal) in
-    let h = sym (c .before .before .before .before .before .before .before .before .before .before .before .before .before .is-refused .ensures) ∙ c .before .before .before .before .before .before .before .before .before .before .before .before .if1 .left in
+    let l = numberOf (k .allot-bids .result .refusal) in
+    let h = sym (c .before .before .before .before .before .before .before .before .before .before .is-refused .ensures) ∙ c .before .before .before .before .before .before .before .before .before .if1 .left in
     let w = c .before .before .before .put-awards in
     let q = c .with-change2 .ensures in
-    let e = k .allot-book .ensures in
-    let number = e .1 .number in
-    let rs = lent-again (k .allot-book .last .1 .1 .1 .0) (drop (10 * n - 0) (c .before .before .before .before .before .before .before .before .before .before .before .before .before .before .before .before .before .before .before .before .no-rates .result)) (10 * n) (rates-long k) in
-    let xs = lent-again (k .allot-book .last .1 .1 .1 .1 .0) (drop (10 * n - 0) (c .before .before .before .before .before .before .before .before .before .before .before .before .before .before .before .before .before .before .before .no-amounts .result)) (10 * n) (awards-long k) in
-    let codes = codes-viewed (a .book) (codes-full start) ∙ ap (λ (m : ℕ). take m (a .book .codes)) (sym (u .up-to-64 .ensures) ∙ sym (sub-zero n)) in (
-      subst (Wrote _ 0 _ _) (sym (q .0))
-          (said (lines-awarded (tender.viewed t) l number h _ (xs ∙ awards-told (e .1) h))
-          (w .ensures (a .book) (e .0 .amounts) codes (ap (λ (x : List ℕ). bidsOf x (e .0 .amounts)) rs ∙ e .0 .bids))),
-      q .1 ∙ ap (λ (x : Option ℕ). unlessRefused x change.None (change.InState state.Announced)) (sym (none-of l h) ∙ number),
-    )
+    let e = k .allot-bids .ensures b (bids-are u held has) in
+    let xs = lent-again (k .allot-bids .last .1 .1 .1 .1 .0) (drop (10 * n - 0) (k .before .before .before .before .no-awards .result)) (10 * n) (awards-long k) in
+    let codes = codes-viewed b (start .pre .0 .0) ∙ ap (λ (m : ℕ). take m (now (start .args .admitted))) (sym (u .up-to-64 .ensures) ∙ sym (sub-zero n)) in
+    record {
+      lines = subst (Wrote _ 0 _ _) (sym (q .0)) (said (lines-awarded (tender.viewed t) l (e .number) h _ (xs ∙ awards-told e h)) (w .ensures b (take (10 * n - 0) (now (start .args .amounts))) codes (bids-are u held has)));
+      change-is = q .1 ∙ ap (λ (x : Option ℕ). unlessRefused x change.None (change.InState state.Announced)) (sym (none-of l h) ∙ e .number);
+    }
 
 pub put-allotment-spec : {M : Type 1} → statement M
 put-allotment-spec =
@@ -204,15 +233,17 @@ put-allotment-spec =
     (tie.spec
     up-to-64-requires
     mul-end
-    no-rates-requires
-    no-amounts-requires
-    sub-allot-book
-    part-rates-start
-    part-rates-end
-    sub-allot-book-2
+    no-awards-requires
+    sub-allot-bids
+    part-allot-bids-start
+    part-allot-bids-end
+    sub-allot-bids-2
+    part-allot-bids-start-2
+    part-allot-bids-end-2
+    sub-allot-bids-3
     part-awards-start
     part-awards-end
-    allot-book-requires
+    allot-bids-requires
     is-refused-requires
     number-of-requires
     put-refused-requires

@@ -1,12 +1,14 @@
 -- `steps::fields::reception` meets its contract. Assumes nothing.
 use mathlib.Core.Path.{_≡_, refl, sym, subst, _∙_}
-use mathlib.Core.List.{List}
+use mathlib.Core.List.{List, []}
 use Prim.Native.Nat.{ℕ, _<_, _≤_}
 use denote.Ref.{now}
 use lib.ListN.{length}
 use borrow.Author.Tests.{lt-ltb, le-ltb, not-true, not-false}
 use Rattle.output.specs.Output.{Wrote}
 use Rattle.output.proofs.Output.{said}
+use Rattle.book.specs.declared.Book.{Book}
+use Rattle.book.specs.Viewed.{bookOf}
 use Rattle.log.specs.Steps.{ending, onTender, received, reception}
 use Rattle.tender.specs.declared.Tender.{Tender}
 use Rattle.tender.specs.Viewed.{tenderOf}
@@ -30,19 +32,19 @@ unfolding reception
 calls s p h = sym (rw (le-ltb (length s) 14 h) refl)
 
 returns : tie.Need-returns
-returns c codes n g =
-    let a = c .before .before .before .before .args in
-    let p = parts (a .opened) codes n (a .state) (a .terms) (a .book) in
+returns c codes n b l g =
+    let a = c .before .before .before .before .before .before .before .args in
+    let p = parts (a .opened) codes n (a .state) (a .terms) b in
     takes-as (ends (now (a .s)) p (c .before .if1 .taken)) (takes-ended p g (now (a .s)) (now (a .space)) (c .with-change .result) (c .with-change .ensures .1) (c .with-change .ensures .0))
 
 with-change-requires-2 : tie.Need-with-change-requires-2
 with-change-requires-2 c κs = search needs
 
 returns-2 : tie.Need-returns-2
-returns-2 c codes n g =
-    let a = c .before .before .before .before .before .args in
+returns-2 c codes n b l g =
+    let a = c .before .before .before .before .before .before .before .before .args in
     let s = now (a .s) in
-    let p = parts (a .opened) codes n (a .state) (a .terms) (a .book) in
+    let p = parts (a .opened) codes n (a .state) (a .terms) b in
     takes-as (no-tender p (received s) (not-true _ (c .before .if2 .taken)) ∙ calls s p (c .before .before .if1 .left)) (takes-skipped p g s (now (a .space)) (c .with-change2 .result) (c .with-change2 .ensures .1) (c .with-change2 .ensures .0))
 
 sub-m : tie.Need-sub-m
@@ -65,9 +67,11 @@ outcome-of-requires c κs = search needs
 
 put-answer-requires : tie.Need-put-answer-requires
 put-answer-requires c κs =
-    let e = c .before .before .outcome-of .ensures in
-    let start = c .before .before .before .before .before .before .before .before .before .before in
-    (e .readable-told, ((e .few, c .before .before .before .before .before .before .before .if1 .left, start .pre .1), message-is (now (start .args .s))))
+    let start = c .before .before .before .before .before .before .before .before .before .before .before .before .before in
+    let a = start .args in
+    let b : Book = bookOf (a .k) (now (a .admitted)) (now (a .held)) (now (a .has)) [] [] in
+    let e = c .before .before .outcome-of .ensures b (record { n-is = refl; codes-are = refl; held-are = refl; has-are = refl }) in
+    (e .readable-told, ((e .few, c .before .before .before .before .before .before .before .if1 .left, start .pre .1 .1), message-is (now (a .s))))
 
 is-held-requires : tie.Need-is-held-requires
 is-held-requires c κs = search needs
@@ -79,16 +83,16 @@ same-length : tie.Need-same-length
 same-length c = search needs
 
 returns-3 : tie.Need-returns-3
-returns-3 c codes n g =
+returns-3 c codes n b l g =
     let pa = c .before .before .before .before .before .before .put-answer in
     let oc = c .before .before .before .before .before .before .before .before .before .outcome-of in
     let date = c .before .before .before .before .before .before .before .before .before .before .before .date-of in
     let time = c .before .before .before .before .before .before .before .before .before .before .time-of in
-    let a = c .before .before .before .before .before .before .before .before .before .before .before .before .before .before .before .before .before .args in
+    let a = c .before .before .before .before .before .before .before .before .before .before .before .before .before .before .before .before .before .before .before .before .args in
     let s = now (a .s) in
-    let t : Tender = tenderOf (a .state) (a .terms) (a .book) in
-    let p = parts (a .opened) codes n (a .state) (a .terms) (a .book) in
-    let e = oc .ensures in
+    let t : Tender = tenderOf (a .state) (a .terms) b in
+    let p = parts (a .opened) codes n (a .state) (a .terms) b in
+    let e = oc .ensures b l in
     let line = line-told t s _ (date .result) (time .result) (oc .result) e (message-is s) (date .ensures) (time .ensures) in
     let kept = left-told t s _ (date .result) (time .result) (oc .result) e (message-is s) (date .ensures) (time .ensures) in
     let open-there = not-false _ (c .before .before .before .before .before .before .before .before .before .before .before .before .before .if2 .left) in
@@ -102,16 +106,16 @@ same-length-2 : tie.Need-same-length-2
 same-length-2 c = search needs
 
 returns-4 : tie.Need-returns-4
-returns-4 c codes n g =
+returns-4 c codes n b l g =
     let pa = c .before .before .before .before .before .put-answer in
     let oc = c .before .before .before .before .before .before .before .before .outcome-of in
     let date = c .before .before .before .before .before .before .before .before .before .before .date-of in
     let time = c .before .before .before .before .before .before .before .before .before .time-of in
-    let a = c .before .before .before .before .before .before .before .before .before .before .before .before .before .before .before .before .args in
+    let a = c .before .before .before .before .before .before .before .before .before .before .before .before .before .before .before .before .before .before .before .args in
     let s = now (a .s) in
-    let t : Tender = tenderOf (a .state) (a .terms) (a .book) in
-    let p = parts (a .opened) codes n (a .state) (a .terms) (a .book) in
-    let e = oc .ensures in
+    let t : Tender = tenderOf (a .state) (a .terms) b in
+    let p = parts (a .opened) codes n (a .state) (a .terms) b in
+    let e = oc .ensures b l in
     let line = line-told t s _ (date .result) (time .result) (oc .result) e (message-is s) (date .ensures) (time .ensures) in
     let kept = left-told t s _ (date .result) (time .result) (oc .result) e (message-is s) (date .ensures) (time .ensures) in
     let open-there = not-false _ (c .before .before .before .before .before .before .before .before .before .before .before .before .if2 .left) in

@@ -1,92 +1,149 @@
 -- `tender::Tender::allot` meets its contract. Assumes nothing.
-use mathlib.Core.Path.{_≡_, ap, _∙_}
+use mathlib.Core.Path.{_≡_, ap, ap₂, _∙_}
+use mathlib.Core.List.{List}
 use Prim.Native.Nat.{ℕ, _*_, _-_, _≤_}
+use native.Mathlib.Nat.{sub-zero}
 use native.Mathlib.Omega.{arith}
-use lib.ListN.{length, length-replicate}
+use lib.ListN.{length, take, length-replicate}
+use Rattle.laws.proofs.Arrays.{length-mapped}
+use Rattle.bids.specs.Columns.{bidsOf}
+use Rattle.rules.specs.Calls.{bidsInBook}
+use Rattle.book.specs.declared.Columns.{Columns}
+use Rattle.book.specs.Viewed as book
 use Rattle.book.specs.Viewed.{upTo64}
 use Rattle.book.proofs.Empty.{upTo64-small}
+use Rattle.book.proofs.Order.{bids-in-columns}
 use Rattle.tender.proofs.Allotting.{lent-length, allots}
 use borrow.Author.Needs.{needs}
 use Rattle.tender.proofs.Tender.allot.Statement.{statement}
 use Rattle.tender.proofs.Tender.allot.Tie as tie
+
+columns-of-requires : tie.Need-columns-of-requires
+columns-of-requires c κs = search needs
 
 up-to-64-requires : tie.Need-up-to-64-requires
 up-to-64-requires c κs = search needs
 
 -- ten places for each of at most 64 codes
 few : (c : tie.After-up-to-64) → 10 * c .up-to-64 .result ≤ 640
-few c = omega (arith, c .up-to-64 .ensures, upTo64-small (c .before .before .before .args .self .book .n) .0)
+few c = omega (arith, c .up-to-64 .ensures, upTo64-small (c .before .before .before .before .before .before .args .self .book .n) .0)
 
-room : (c : tie.After-no-amounts) → length (c .no-amounts .result) ≡ 640
-room c = ap length (c .no-amounts .ensures) ∙ length-replicate {A = ℕ} 640 0
+-- the columns and the awards have 640 places
+rates-long : (c : tie.After-columns-of) → length (c .columns-of .result .rates) ≡ 640
+rates-long c = search needs
+
+amounts-long : (c : tie.After-columns-of) → length (c .columns-of .result .amounts) ≡ 640
+amounts-long c = search needs
+
+room : (c : tie.After-no-awards) → length (c .no-awards .result) ≡ 640
+room c = ap length (c .no-awards .ensures) ∙ length-replicate {A = ℕ} 640 0
 
 mul-end : tie.Need-mul-end
 mul-end c = let e = few c in omega (arith, e)
 
-no-rates-requires : tie.Need-no-rates-requires
-no-rates-requires c κs = search needs
+no-awards-requires : tie.Need-no-awards-requires
+no-awards-requires c κs = search needs
 
-no-amounts-requires : tie.Need-no-amounts-requires
-no-amounts-requires c κs = search needs
+sub-allot-bids : tie.Need-sub-allot-bids
+sub-allot-bids c = search needs
 
-sub-allot-book : tie.Need-sub-allot-book
-sub-allot-book c = search needs
+part-allot-bids-start : tie.Need-part-allot-bids-start
+part-allot-bids-start c = search needs
 
-part-rates-start : tie.Need-part-rates-start
-part-rates-start c = search needs
+part-allot-bids-end : tie.Need-part-allot-bids-end
+part-allot-bids-end c =
+    let u = c .before .before in
+    let e = few u in
+    let r = rates-long (u .before .before .before) in
+    omega (arith, e, r)
 
-part-rates-end : tie.Need-part-rates-end
-part-rates-end c = let e = few (c .before .before) in omega (arith, e, c .before .no-rates .ensures)
+sub-allot-bids-2 : tie.Need-sub-allot-bids-2
+sub-allot-bids-2 c = search needs
 
-sub-allot-book-2 : tie.Need-sub-allot-book-2
-sub-allot-book-2 c = search needs
+part-allot-bids-start-2 : tie.Need-part-allot-bids-start-2
+part-allot-bids-start-2 c = search needs
+
+part-allot-bids-end-2 : tie.Need-part-allot-bids-end-2
+part-allot-bids-end-2 c =
+    let u = c .before .before .before .before in
+    let e = few u in
+    let r = amounts-long (u .before .before .before) in
+    omega (arith, e, r)
+
+sub-allot-bids-3 : tie.Need-sub-allot-bids-3
+sub-allot-bids-3 c = search needs
 
 part-awards-start : tie.Need-part-awards-start
 part-awards-start c = search needs
 
 part-awards-end : tie.Need-part-awards-end
-part-awards-end c = let e = few (c .before .before .before) in let r = room (c .before) in omega (arith, e, r)
+part-awards-end c =
+    let e = few (c .before .before .before .before .before) in
+    let r = room (c .before .before .before .before) in
+    omega (arith, e, r)
 
-allot-book-requires : tie.Need-allot-book-requires
-allot-book-requires c κs =
-    let u = c .before .before .before .before in
-    let e = few u in
-    let r = room (c .before .before) in
+allot-bids-requires : tie.Need-allot-bids-requires
+allot-bids-requires c κs =
+    let u = c .before .before .before .before .before .before in
+    let k = u .before .before .before in
     let n = 10 * u .up-to-64 .result in
-    let q : n ≡ 10 * upTo64 (u .before .before .before .args .self .book .n) = ap (λ (k : ℕ). 10 * k) (u .up-to-64 .ensures) in
-    (lent-length (c .before .before .before .no-rates .result) n (omega (arith, e, c .before .before .before .no-rates .ensures)) ∙ q, lent-length (c .before .before .no-amounts .result) n (omega (arith, e, r)) ∙ q)
+    let e = few u in
+    let rates = lent-length (k .columns-of .result .rates) n (let r = rates-long k in omega (arith, e, r)) in
+    let amounts = lent-length (k .columns-of .result .amounts) n (let r = amounts-long k in omega (arith, e, r)) in
+    let awards = lent-length (c .before .before .before .before .before .no-awards .result) n (let r = room (c .before .before .before .before .before) in omega (arith, e, r)) in
+    (omega (arith, rates, amounts), omega (arith, amounts, awards), omega (arith, amounts, e))
 
 in-state-unless-requires : tie.Need-in-state-unless-requires
 in-state-unless-requires c κs = search needs
 
+book-rates : (c : tie.Start) → length (c .args .self .book .rates) ≡ 640
+book-rates c = search (needs, length-mapped)
+
+book-amounts : (c : tie.Start) → length (c .args .self .book .amounts) ≡ 640
+book-amounts c = search (needs, length-mapped)
+
+-- the bids that are lent are those of the book
+bids-are : (c : tie.After-up-to-64)
+    → (let n = 10 * c .up-to-64 .result in
+    let k = c .before .before .before .columns-of .result in
+    bidsOf (take (n - 0) (k .rates)) (take (n - 0) (k .amounts)) ≡ bidsInBook (book.viewed (c .before .before .before .before .before .before .args .self .book)))
+bids-are c =
+    let start = c .before .before .before .before .before .before in
+    let b = start .args .self .book in
+    ap₂ (λ (n : ℕ) (k : Columns). bidsOf (take n (k .rates)) (take n (k .amounts))) (sub-zero _ ∙ ap (λ (n : ℕ). 10 * n) (c .up-to-64 .ensures)) (c .before .before .before .columns-of .ensures)
+    ∙ bids-in-columns b (book-rates start) (book-amounts start)
+
 returns : tie.Need-returns
 returns c =
-    let start = c .before .before .before .before .before .before .before .before .before .before .before .before in
-    let a = c .before .before .before .before .allot-book in
-    let u = c .before .before .before .before .before .before .before .before .before in
+    let u = c .before .before .before .before .before .before .before .before .before .before in
+    let start = u .before .before .before .before .before .before in
+    let a = c .before .before .before .allot-bids in
     let n = 10 * u .up-to-64 .result in
-    let zeros = c .before .before .before .before .before .before .before .no-amounts in
-    let r = room (c .before .before .before .before .before .before .before) in
+    let zeros = c .before .before .before .before .before .before .before .before .before in
+    let r = room zeros in
     let e = few u in
     let s = c .before .in-state-unless in
-    allots (start .args .self) (start .pre) (a .result) (s .result) n (a .last .1 .1 .1 .1 .0) (zeros .result) (zeros .ensures) e
-    (a .kept .1 .1 .1 .1 .0 ∙ lent-length (zeros .result) n (omega (arith, e, r)))
-    (a .ensures .1) (s .ensures .1) (s .ensures .0)
+    allots (start .args .self) (start .pre) (a .result) (s .result) n (a .last .1 .1 .1 .1 .0) (zeros .no-awards .result) (zeros .no-awards .ensures) e
+    (a .kept .1 .1 .1 .1 .0 ∙ lent-length (zeros .no-awards .result) n (omega (arith, e, r)))
+    (a .ensures (start .args .self .book) (bids-are u)) (s .ensures .1) (s .ensures .0)
 
 pub allot-spec : {M : Type 1} → statement M
 allot-spec =
     tie.close
     (tie.spec
+    columns-of-requires
     up-to-64-requires
     mul-end
-    no-rates-requires
-    no-amounts-requires
-    sub-allot-book
-    part-rates-start
-    part-rates-end
-    sub-allot-book-2
+    no-awards-requires
+    sub-allot-bids
+    part-allot-bids-start
+    part-allot-bids-end
+    sub-allot-bids-2
+    part-allot-bids-start-2
+    part-allot-bids-end-2
+    sub-allot-bids-3
     part-awards-start
     part-awards-end
-    allot-book-requires
+    allot-bids-requires
     in-state-unless-requires
     returns)

@@ -9,6 +9,11 @@ use Prim.Native.Nat.{ℕ, _<_}
 use native.Mathlib.Omega.{arith}
 use denote.Ref.{now}
 use lib.Dec.{eqb}
+use lib.ListN.{length}
+use Rattle.laws.proofs.Arrays.{length-mapped}
+use Rattle.book.specs.Viewed.{Full}
+use Rattle.book.proofs.Order.{codes-viewed}
+use Rattle.rules.specs.Opening.{rising}
 use Rattle.rules.specs.Receiving.{Entry}
 use Rattle.rules.specs.Calls.{answerUnless, receive}
 use Rattle.errors.specs.Listed.{listed}
@@ -17,14 +22,25 @@ use Rattle.tender.specs.declared.Refusal.the-variants as refusal
 use Rattle.tender.specs.declared.Received.{Received}
 use Rattle.tender.specs.declared.internal.Outcome.{Outcome}
 use Rattle.tender.specs.Viewed.{viewed, numberOf, isSome, tenderOf, isHeld}
-use Rattle.tender.specs.Calls.{Receives}
+use Rattle.tender.specs.Calls.{ComesTo, Receives}
 use Rattle.tender.proofs.Conditions.{none-of}
 use Rattle.tender.proofs.Answering.{receives-refused, receives-answered}
 use Rattle.tender.proofs.Tender.receive.Statement.{statement}
 use Rattle.tender.proofs.Tender.receive.Tie as tie
 
+-- the lengths that arrays have by their types
+full : (c : tie.Start) → (let b = c .args .self .book in Full (b .codes) (b .held) (b .has))
+full c = record { codes-length = search needs; held-length = search needs; has-length = search (needs, length-mapped) }
+
 outcome-of-requires : tie.Need-outcome-of-requires
-outcome-of-requires c κs = search needs
+outcome-of-requires c κs =
+    let start = c .before .before .before .before .before .before .before .before .before .before .before in
+    let f = full start in
+    (f, ap rising (sym (codes-viewed (start .args .self .book) (f .codes-length))) ∙ start .pre .rises)
+
+-- what the reception comes to in this tender, whose book lends its columns
+comes : (c : tie.After-outcome-of) → (let a = c .before .before .before .before .before .before .before .before .before .before .before .before .args in ComesTo (a .self) (now (a .m)) (a .date) (a .time) (length (now (a .space))) (c .outcome-of .result))
+comes c = c .outcome-of .ensures (c .before .before .before .before .before .before .before .before .before .before .before .before .args .self .book) (record { n-is = refl; codes-are = refl; held-are = refl; has-are = refl })
 
 is-refused-requires : tie.Need-is-refused-requires
 is-refused-requires c κs = search needs
@@ -35,11 +51,11 @@ unreceived-requires c κs = search needs
 returns : tie.Need-returns
 returns c =
     let o = c .before .before .before in
-    let start = o .before .before .before .before .before in
+    let start = o .before .before .before .before .before .before .before .before .before .before .before .before in
     let a = start .args in
     let e = c .unreceived .ensures in
     receives-refused (a .self) (start .pre) (received (now (a .m)) (a .date) (a .time) (now (a .space))) (c .unreceived .result) (e .1) (e .2) (e .3) (e .4) (o .outcome-of .result .refusal) (e .0)
-    (sym (o .outcome-of .ensures .number (now (a .space)) refl))
+    (sym (comes o .number (now (a .space)) refl))
     (sym (c .before .before .is-refused .ensures) ∙ c .before .if1 .taken)
 
 -- the reception is not refused
@@ -49,11 +65,11 @@ unrefused c = none-of _ (sym (c .before .is-refused .ensures) ∙ c .if1 .left)
 put-reply-requires : tie.Need-put-reply-requires
 put-reply-requires c κs =
     let l = c .before .before in
-    let e = l .before .before .outcome-of .ensures in
+    let e = comes (l .before .before) in
     (e .readable-told (unrefused l), (e .few, e .roomy (unrefused l)))
 
 held-in-requires : tie.Need-held-in-requires
-held-in-requires c κs = search needs
+held-in-requires c κs = comes (c .before .before .before .before .before .before .before) .within
 
 same-length : tie.Need-same-length
 same-length c = search needs
@@ -68,10 +84,10 @@ returns-2 c =
     let p = c .before .before .before in
     let l = p .before .before .before in
     let o = l .before .before in
-    let start = o .before .before .before .before .before in
+    let start = o .before .before .before .before .before .before .before .before .before .before .before .before in
     let a = start .args in
     let x = received (now (a .m)) (a .date) (a .time) (now (a .space)) in
-    let e = o .outcome-of .ensures in
+    let e = comes o in
     let q = unrefused l in
     let r = o .outcome-of .result in
     let answer : Received = record { refusal = refusal.None; errors = r .errors; length = p .put-reply .result; tender = tenderOf (a .self .state) (a .self .terms) (c .held-in .result) } in

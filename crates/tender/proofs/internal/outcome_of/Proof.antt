@@ -11,6 +11,8 @@ use borrow.Author.Tests.{lt-ltb, le-ltb}
 use Rattle.envelope.specs.Refusals.{firstHolding}
 use Rattle.envelope.specs.Application.{unreadable, readRefusal}
 use Rattle.rules.specs.Calls.{isRevoked, isOver, clockInvalid, spaceShort, receivingRefused}
+use Rattle.book.specs.declared.Book.{Book}
+use Rattle.book.specs.Viewed.{bookOf}
 use Rattle.checks.specs.Columns.{received}
 use Rattle.tender.specs.declared.Refusal.the-variants as refusal
 use Rattle.tender.specs.declared.Tender.{Tender}
@@ -21,8 +23,9 @@ use Rattle.tender.proofs.Outcomes.{comes-refused, comes-answered}
 use Rattle.tender.proofs.internal.outcome_of.Statement.{statement}
 use Rattle.tender.proofs.internal.outcome_of.Tie as tie
 
-tenderAt : tie.Start → Tender
-tenderAt c = tenderOf (c .args .state) (c .args .terms) (c .args .book)
+-- a tender with a book that lends what the code was lent
+tenderAt : tie.Start → Book → Tender
+tenderAt c b = tenderOf (c .args .state) (c .args .terms) b
 
 not-open-requires : tie.Need-not-open-requires
 not-open-requires c κs = search needs
@@ -35,10 +38,10 @@ refused-with-requires c κs = search needs
 
 returns : tie.Need-returns
 unfolding receivingRefused
-returns c =
+returns c b lent =
     let n = c .before .before .before in
-    let a = n .before .before .args in
-    let u = tenderOf (a .state) (a .terms) (a .book) in
+    let a = n .before .before .before .before .before .args in
+    let u = tenderOf (a .state) (a .terms) b in
     let t = viewed u in
     let e = c .refused-with .ensures in
     let refused : isSome (numberOf (n .not-open .result)) ≡ true = sym (c .before .before .is-refused .ensures) ∙ c .before .if1 .taken in
@@ -49,38 +52,38 @@ refused-with-requires-2 : tie.Need-refused-with-requires-2
 refused-with-requires-2 c κs = search needs
 
 -- what is left to ask of an open tender at a valid clock reading
-asked-then : (c : tie.Else1) (space : List ℕ)
-    → (let start = c .before .before .before .before in
-    receivingRefused (viewed (tenderAt start)) (received (now (start .args .m)) (start .args .date) (start .args .time) space) ≡ firstHolding ((11, spaceShort space) ∷ (12, unreadable (now (start .args .m))) ∷ []))
+asked-then : (c : tie.Else1) (b : Book) (space : List ℕ)
+    → (let start = c .before .before .before .before .before .before .before in
+    receivingRefused (viewed (tenderAt start b)) (received (now (start .args .m)) (start .args .date) (start .args .time) space) ≡ firstHolding ((11, spaceShort space) ∷ (12, unreadable (now (start .args .m))) ∷ []))
 unfolding tenderAt receivingRefused
-asked-then c space =
+asked-then c b space =
     let n = c .before .before in
-    let a = n .before .before .args in
-    let u = tenderOf (a .state) (a .terms) (a .book) in
+    let a = n .before .before .before .before .before .args in
+    let u = tenderOf (a .state) (a .terms) b in
     let t = viewed u in
     refused-later ((8, isRevoked t) ∷ (9, isOver t) ∷ (10, clockInvalid (a .date) (a .time)) ∷ []) ((11, spaceShort space) ∷ (12, unreadable (now (a .m))) ∷ []) (numberOf (n .not-open .result)) (n .not-open .ensures u refl) (sym (c .before .is-refused .ensures) ∙ c .if1 .left)
 
 returns-2 : tie.Need-returns-2
 unfolding tenderAt firstHolding spaceShort
-returns-2 c =
+returns-2 c b lent =
     let l = c .before .before in
-    let a = l .before .before .before .before .args in
+    let a = l .before .before .before .before .before .before .before .args in
     let e = c .refused-with2 .ensures in
-    comes-refused (tenderOf (a .state) (a .terms) (a .book)) (now (a .m)) (a .date) (a .time) (a .room) (c .refused-with2 .result) refusal.SpaceShort (e .0) (e .1) (e .2) refl
-    (λ space h. asked-then l space ∙ ap (λ (b : Bool). firstHolding ((11, b) ∷ (12, unreadable (now (a .m))) ∷ [])) (lt-ltb (length space) 418 (omega (arith, h, c .before .if2 .taken))))
+    comes-refused (tenderOf (a .state) (a .terms) b) (now (a .m)) (a .date) (a .time) (a .room) (c .refused-with2 .result) refusal.SpaceShort (e .0) (e .1) (e .2) refl
+    (λ space h. asked-then l b space ∙ ap (λ (b : Bool). firstHolding ((11, b) ∷ (12, unreadable (now (a .m))) ∷ [])) (lt-ltb (length space) 418 (omega (arith, h, c .before .if2 .taken))))
 
 read-requires : tie.Need-read-requires
 read-requires c κs = search needs
 
 -- the room is enough: the message decides
-asked-last : (c : tie.Else2) (space : List ℕ)
-    → (let start = c .before .before .before .before .before in
+asked-last : (c : tie.Else2) (b : Book) (space : List ℕ)
+    → (let start = c .before .before .before .before .before .before .before .before in
     length space ≡ start .args .room
-    → receivingRefused (viewed (tenderAt start)) (received (now (start .args .m)) (start .args .date) (start .args .time) space) ≡ firstHolding ((12, unreadable (now (start .args .m))) ∷ []))
+    → receivingRefused (viewed (tenderAt start b)) (received (now (start .args .m)) (start .args .date) (start .args .time) space) ≡ firstHolding ((12, unreadable (now (start .args .m))) ∷ []))
 unfolding firstHolding spaceShort
-asked-last c space h =
-    let a = c .before .before .before .before .before .args in
-    asked-then (c .before) space ∙ ap (λ (b : Bool). firstHolding ((11, b) ∷ (12, unreadable (now (a .m))) ∷ [])) (le-ltb (length space) 418 (omega (arith, h, c .if2 .left)))
+asked-last c b space h =
+    let a = c .before .before .before .before .before .before .before .before .args in
+    asked-then (c .before) b space ∙ ap (λ (b : Bool). firstHolding ((11, b) ∷ (12, unreadable (now (a .m))) ∷ [])) (le-ltb (length space) 418 (omega (arith, h, c .if2 .left)))
 
 enum-told : tie.Need-enum-told
 enum-told c = search needs
@@ -96,41 +99,44 @@ judged-requires c κs =
     let r = c .before .before .before in
     let l = r .before .before in
     let n = l .before .before in
-    let start = n .before .before in
+    let start = n .before .before .before .before .before in
     let a = start .args in
     let is-readable = ap readRefusal (c .before .enum-told2 .given .1) in
     let unrefused = sym (l .before .is-refused .ensures) ∙ l .if1 .left in
-    let u = tenderOf (a .state) (a .terms) (a .book) in (
-      start .pre .rises,
+    let u = tenderOf (a .state) (a .terms) (bookOf 0 [] [] [] [] []) in (
+      start .pre .0,
       (
-        readable-read (now (a .m)) (r .read .result .answer) (r .read .result .fields) (r .read .ensures) is-readable,
+        start .pre .1,
         (
-          fields-read (now (a .m)) (r .read .result .answer) (r .read .result .fields) (r .read .ensures) is-readable,
-          clock-valid (viewed u) (a .date) (a .time) (numberOf (n .not-open .result)) (n .not-open .ensures u refl) unrefused,
+          readable-read (now (a .m)) (r .read .result .answer) (r .read .result .fields) (r .read .ensures) is-readable,
+          (
+            fields-read (now (a .m)) (r .read .result .answer) (r .read .result .fields) (r .read .ensures) is-readable,
+            clock-valid (viewed u) (a .date) (a .time) (numberOf (n .not-open .result)) (n .not-open .ensures u refl) unrefused,
+          ),
         ),
       ),
     )
 
 returns-3 : tie.Need-returns-3
 unfolding tenderAt
-returns-3 c =
+returns-3 c b lent =
     let r = c .before .before .before in
-    let a = r .before .before .before .before .before .before .args in
+    let a = r .before .before .before .before .before .before .before .before .before .args in
     let e = c .refused-with3 .ensures in
-    comes-refused (tenderOf (a .state) (a .terms) (a .book)) (now (a .m)) (a .date) (a .time) (a .room) (c .refused-with3 .result) refusal.Unreadable (e .0) (e .1) (e .2) refl
-    (λ space h. asked-last (r .before) space h ∙ number-read (now (a .m)) (r .read .result .answer) (r .read .result .fields) (r .read .ensures) ∙ ap readRefusal (c .before .enum-told .given .1))
+    comes-refused (tenderOf (a .state) (a .terms) b) (now (a .m)) (a .date) (a .time) (a .room) (c .refused-with3 .result) refusal.Unreadable (e .0) (e .1) (e .2) refl
+    (λ space h. asked-last (r .before) b space h ∙ number-read (now (a .m)) (r .read .result .answer) (r .read .result .fields) (r .read .ensures) ∙ ap readRefusal (c .before .enum-told .given .1))
 
 returns-4 : tie.Need-returns-4
 unfolding tenderAt
-returns-4 c =
+returns-4 c b lent =
     let r = c .before .before .before .before in
-    let a = r .before .before .before .before .before .before .args in
+    let a = r .before .before .before .before .before .before .before .before .before .args in
     let e = c .judged .ensures in
     let is-readable = ap readRefusal (c .before .before .enum-told2 .given .1) in
-    comes-answered (tenderOf (a .state) (a .terms) (a .book)) (now (a .m)) (a .date) (a .time) (a .room) (c .judged .result) (e .0) (r .before .if2 .left)
+    comes-answered (tenderOf (a .state) (a .terms) b) (now (a .m)) (a .date) (a .time) (a .room) (c .judged .result) (e .0) (r .before .if2 .left)
     (readable-read (now (a .m)) (r .read .result .answer) (r .read .result .fields) (r .read .ensures) is-readable)
-    (e .3 (a .state)) (e .1) (e .2)
-    (λ space h. asked-last (r .before) space h ∙ number-read (now (a .m)) (r .read .result .answer) (r .read .result .fields) (r .read .ensures) ∙ is-readable)
+    (e .3 b lent (a .state)) (e .1) (e .2)
+    (λ space h. asked-last (r .before) b space h ∙ number-read (now (a .m)) (r .read .result .answer) (r .read .result .fields) (r .read .ensures) ∙ is-readable)
 
 pub outcome-of-spec : {M : Type 1} → statement M
 outcome-of-spec =
