@@ -17,7 +17,7 @@ use Rattle.places.specs.declared.Amount.{Amount}
 use Rattle.book.specs.declared.Book.{Book}
 use Rattle.book.specs.declared.Columns.{Columns}
 use Rattle.bids.specs.Columns.{noRate, noAmount, cents, bidsFrom}
-use Rattle.book.specs.Viewed.{hundredThousandths, rateOf, amountOf, bookIn, heldAt, entryAt, entriesFrom, upTo64, viewed, replaced}
+use Rattle.book.specs.Viewed.{hundredThousandths, rateOf, amountOf, bookOf, bookIn, heldAt, entryAt, entriesFrom, upTo64, viewed, replaced}
 use Rattle.book.proofs.Order.{mapped-at}
 
 module _ {A : Type 0} where
@@ -88,51 +88,32 @@ timed b k t rs xs = record { codes = b .codes; n = b .n; held = set (b .held) k 
 abbrev pub stored : Book → ℕ → ℕ → List Rate → List Amount → Book
 stored b k t vs ws = timed b k t (sets (b .rates) (10 * k) vs) (sets (b .amounts) (10 * k) ws)
 
--- columns with other rates and amounts
-abbrev pub placed : Columns → List ℕ → List ℕ → Columns
-placed c rs xs = record { codes = c .codes; n = c .n; held = c .held; has = c .has; rates = rs; amounts = xs }
+-- values stored as numbers, one more and all of them, and what the numbers stand for
+module _ {A : Type 0} (number : A → ℕ) where
+  pub number-stored : (l : List ℕ) (k : ℕ) (vs : List A) (cur : List ℕ) (i : ℕ) (d : A) → i < length vs → cur ≡ sets l k (take i (map number vs))
+      → set cur (k + i) (number (getD vs i d)) ≡ sets l k (take (i + 1) (map number vs))
+  number-stored l k vs cur i d h e = ap (set cur (k + i)) (mapped-at number vs i d 0 h) ∙ sets-more l k (map number vs) cur i 0 (omega (arith, h, length-map vs number)) e
 
--- the first i of rates and of amounts stored as numbers
-abbrev pub placedTo : Columns → ℕ → ℕ → List Rate → List Amount → Columns
-placedTo c k i vs ws = placed c (sets (c .rates) (10 * k) (take i (map hundredThousandths vs))) (sets (c .amounts) (10 * k) (take i (map cents ws)))
+  pub numbers-stored : (l : List ℕ) (k : ℕ) (vs : List A) (cur : List ℕ) (i : ℕ) → length vs ≤ i → cur ≡ sets l k (take i (map number vs)) → cur ≡ sets l k (map number vs)
+  numbers-stored l k vs cur i h e = e ∙ ap (sets l k) (take-all i (map number vs) (omega (arith, h, length-map vs number)))
 
--- one place more stored
-pub one-placed : (c₀ c : Columns) (k i : ℕ) (vs : List Rate) (ws : List Amount) → i < length vs → i < length ws → c ≡ placedTo c₀ k i vs ws
-    → placed c (set (c .rates) (10 * k + i) (hundredThousandths (getD vs i noRate))) (set (c .amounts) (10 * k + i) (cents (getD ws i noAmount))) ≡ placedTo c₀ k (i + 1) vs ws
-one-placed c₀ c k i vs ws hv hw e =
-    let rs =
-    ap (set (c .rates) (10 * k + i)) (mapped-at hundredThousandths vs i noRate 0 hv)
-    ∙ sets-more (c₀ .rates) (10 * k) (map hundredThousandths vs) (c .rates) i 0 (omega (arith, hv, length-map vs hundredThousandths)) (ap (λ (y : Columns). y .rates) e) in
-    let xs =
-    ap (set (c .amounts) (10 * k + i)) (mapped-at cents ws i noAmount 0 hw)
-    ∙ sets-more (c₀ .amounts) (10 * k) (map cents ws) (c .amounts) i 0 (omega (arith, hw, length-map ws cents)) (ap (λ (y : Columns). y .amounts) e) in
-    λ j. record { codes = e j .codes; n = e j .n; held = e j .held; has = e j .has; rates = rs j; amounts = xs j }
+  module _ (back : ℕ → A) (same : (v : A) → back (number v) ≡ v) where
+    back-set : (l : List ℕ) (i n : ℕ) → map back (set l i n) ≡ set (map back l) i (back n)
+    back-set [] i n = refl
+    back-set (x ∷ l) zero n = refl
+    back-set (x ∷ l) (suc i) n = ap (λ (y : List A). back x ∷ y) (back-set l i n)
 
--- numbers stored, and what they stand for
-module _ {A : Type 0} (number : A → ℕ) (back : ℕ → A) (same : (v : A) → back (number v) ≡ v) where
-  back-set : (l : List ℕ) (i n : ℕ) → map back (set l i n) ≡ set (map back l) i (back n)
-  back-set [] i n = refl
-  back-set (x ∷ l) zero n = refl
-  back-set (x ∷ l) (suc i) n = ap (λ (y : List A). back x ∷ y) (back-set l i n)
+    stored-back : (l : List ℕ) (k : ℕ) (vs : List A) → map back (sets l k (map number vs)) ≡ sets (map back l) k vs
+    stored-back l k [] = refl
+    stored-back l k (v ∷ vs) =
+        stored-back (set l k (number v)) (suc k) vs
+        ∙ ap (λ (y : List A). sets y (suc k) vs) (back-set l k (number v) ∙ ap (set (map back l) k) (same v))
 
-  back-sets : (l : List ℕ) (i : ℕ) (ns : List ℕ) → map back (sets l i ns) ≡ sets (map back l) i (map back ns)
-  back-sets l i [] = refl
-  back-sets l i (n ∷ ns) = back-sets (set l i n) (suc i) ns ∙ ap (λ (y : List A). sets y (suc i) (map back ns)) (back-set l i n)
-
-  back-taken : (i : ℕ) (vs : List A) → map back (take i (map number vs)) ≡ take i vs
-  back-taken zero vs = refl
-  back-taken (suc i) [] = refl
-  back-taken (suc i) (v ∷ vs) = ap₂ (λ (y : A) (ys : List A). y ∷ ys) (same v) (back-taken i vs)
-
-  stored-back : (l : List ℕ) (k i : ℕ) (vs : List A) → map back (sets l k (take i (map number vs))) ≡ sets (map back l) k (take i vs)
-  stored-back l k i vs = back-sets l k (take i (map number vs)) ∙ ap (sets (map back l) k) (back-taken i vs)
-
--- the book of columns in which a time and places are stored
-pub book-placed : (c : Columns) (k t i : ℕ) (vs : List Rate) (ws : List Amount)
-    → bookIn (placedTo (record { codes = c .codes; n = c .n; held = set (c .held) k t; has = set (c .has) k true; rates = c .rates; amounts = c .amounts }) k i vs ws)
-    ≡ timed (bookIn c) k t (sets (bookIn c .rates) (10 * k) (take i vs)) (sets (bookIn c .amounts) (10 * k) (take i ws))
-book-placed c k t i vs ws =
-    ap₂ (timed (bookIn c) k t) (stored-back hundredThousandths rateOf (λ v. refl) (c .rates) (10 * k) i vs) (stored-back cents amountOf (λ w. refl) (c .amounts) (10 * k) i ws)
+-- the book of columns in which a time and the places of a message are stored
+pub book-stored : (c : Columns) (k t : ℕ) (vs : List Rate) (ws : List Amount)
+    → bookOf (c .n) (c .codes) (set (c .held) k t) (set (c .has) k true) (sets (c .rates) (10 * k) (map hundredThousandths vs)) (sets (c .amounts) (10 * k) (map cents ws)) ≡ stored (bookIn c) k t vs ws
+book-stored c k t vs ws =
+    ap₂ (timed (bookIn c) k t) (stored-back hundredThousandths rateOf (λ v. refl) (c .rates) (10 * k) vs) (stored-back cents amountOf (λ w. refl) (c .amounts) (10 * k) ws)
 
 -- the lengths that the arrays have by their types
 pub record Sized (b : Book) : Type 0 where
@@ -185,7 +166,7 @@ module _ (b : Book) (sized : Sized b) (k t : ℕ) (vs : List Rate) (ws : List Am
   entries-stored (suc m) j (suc d) e = λ i. entry-other j (omega arith) i ∷ entries-stored m (suc j) d (omega arith) i
 
   -- a store at one index is one at that entry
-  viewed-stored : viewed (stored b k t vs ws) ≡ replaced (viewed b) k t (bidsFrom vs ws 0 10)
+  pub viewed-stored : viewed (stored b k t vs ws) ≡ replaced (viewed b) k t (bidsFrom vs ws 0 10)
   unfolding viewed
   viewed-stored = entries-stored k 0 (upTo64 (b .n)) (omega arith)
 

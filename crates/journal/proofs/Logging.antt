@@ -6,7 +6,7 @@ use mathlib.Core.Option.{none, some}
 use Prim.Native.Nat.{ℕ, _+_, _*_, _-_, _≤_, _<_}
 use native.Mathlib.Omega.{arith}
 use lib.ListN.{length, take, drop, getD, length-append, length-drop, length-set}
-use lib.Seq.{sets, length-sets, length-take-le}
+use lib.Seq.{length-sets, length-take-le}
 use Rattle.output.specs.Output.{Wrote}
 use Rattle.output.proofs.Output.{from-start}
 use Rattle.layout.specs.Fields.{lengthAt}
@@ -21,7 +21,7 @@ use Rattle.book.specs.declared.Book.{Book}
 use Rattle.book.specs.Viewed as book
 use Rattle.book.proofs.Empty.{new-whole}
 use Rattle.book.proofs.Joining.{new-codes, replaced-codes}
-use Rattle.book.proofs.Storing.{Sized, timed, viewed-timed}
+use Rattle.book.proofs.Storing.{Sized, stored, viewed-stored}
 use Rattle.tender.specs.declared.State.{State}
 use Rattle.tender.specs.declared.State.the-variants as state
 use Rattle.tender.specs.declared.internal.Accepted.{Accepted}
@@ -117,14 +117,11 @@ module _ (p : Parts) (g : parts.Given p) (full : length (p .codes) ≡ 65) (size
       }
 
   -- a message accepted, its ten places stored
-  pub accepted : (a : Accepted) → p .opened ≡ true → a .at < 64 → length (a .rates) ≡ 10 → length (a .amounts) ≡ 10 → (i : ℕ) → i ≡ 10
-      → Arrives (withTender p (holding (tenderIn p) a))
-      (journalOf false (parts.parts (p .opened) (p .codes) (p .n) (p .state) (p .terms) (timed (p .book) (a .at) (a .time) (sets (p .book .rates) (10 * a .at) (take i (a .rates))) (sets (p .book .amounts) (10 * a .at) (take i (a .amounts))))))
-  accepted a o at64 hr hx i e =
-      let rs = sets (p .book .rates) (10 * a .at) (take i (a .rates)) in
-      let xs = sets (p .book .amounts) (10 * a .at) (take i (a .amounts)) in
-      let next = timed (p .book) (a .at) (a .time) rs xs in
-      let there = viewed-timed (p .book) sized (a .at) (a .time) (a .rates) (a .amounts) at64 hr hx i rs xs e refl refl in
+  pub accepted : (a : Accepted) → p .opened ≡ true → a .at < 64 → length (a .rates) ≡ 10 → length (a .amounts) ≡ 10
+      → Arrives (withTender p (holding (tenderIn p) a)) (journalOf false (parts.parts (p .opened) (p .codes) (p .n) (p .state) (p .terms) (stored (p .book) (a .at) (a .time) (a .rates) (a .amounts))))
+  accepted a o at64 hr hx =
+      let next = stored (p .book) (a .at) (a .time) (a .rates) (a .amounts) in
+      let there = viewed-stored (p .book) sized (a .at) (a .time) (a .rates) (a .amounts) at64 hr hx in
       let codes = ap book.codesIn there ∙ replaced-codes (book.viewed (p .book)) (a .at) (a .time) (bidsFrom (a .rates) (a .amounts) 0 10) in
       record {
         told =
@@ -137,8 +134,8 @@ module _ (p : Parts) (g : parts.Given p) (full : length (p .codes) ≡ 65) (size
               codes-length = sized .codes-length;
               held-length = length-set (p .book .held) (a .at) (a .time) ∙ sized .held-length;
               has-length = length-set (p .book .has) (a .at) true ∙ sized .has-length;
-              rates-length = length-sets (p .book .rates) (10 * a .at) (take i (a .rates)) ∙ sized .rates-length;
-              amounts-length = length-sets (p .book .amounts) (10 * a .at) (take i (a .amounts)) ∙ sized .amounts-length;
+              rates-length = length-sets (p .book .rates) (10 * a .at) (a .rates) ∙ sized .rates-length;
+              amounts-length = length-sets (p .book .amounts) (10 * a .at) (a .amounts) ∙ sized .amounts-length;
             };
       }
 

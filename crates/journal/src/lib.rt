@@ -3,6 +3,8 @@ mod fields;
 
 use book::book_of;
 use book::columns_of;
+use book::internal::put_amounts;
+use book::internal::put_rates;
 use book::new_book;
 use fields::holds_field;
 use layout::internal::length_at;
@@ -116,12 +118,10 @@ pub fn run(j: Journal, input: &[u8], space: &mut [u8]) -> Logged
                 let k = accepted.at;
                 columns.held[k] = accepted.time;
                 columns.has[k] = true;
-                let mut i = 0;
-                while i < 10 {
-                    columns.rates[10 * k + i] = accepted.rates[i].0;
-                    columns.amounts[10 * k + i] = accepted.amounts[i].0;
-                    i += 1;
-                }
+                let rates = accepted.rates;
+                let amounts = accepted.amounts;
+                put_rates(&mut columns.rates, k, rates);
+                put_amounts(&mut columns.amounts, k, amounts);
             }
         }
         length += taken.length;

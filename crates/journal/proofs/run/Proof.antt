@@ -11,17 +11,17 @@ use mir.Val.{Val}
 use denote.Ref.{now}
 use denote.Laws.{Is}
 use lib.Dec.{leb}
-use lib.ListN.{length, take, drop, length-drop, length-map}
+use lib.ListN.{length, set, take, drop, length-drop, length-map}
 use borrow.Author.Tests.{leb-true, not-true}
 use Rattle.laws.proofs.Arrays.{length-mapped}
 use Rattle.laws.proofs.Tests.{and-left, and-right}
 use Rattle.rules.specs.Receiving.{newBook}
 use Rattle.book.specs.declared.Book.{Book}
 use Rattle.book.specs.declared.Columns.{Columns}
-use Rattle.book.specs.Viewed.{rateOf, amountOf, columnsOf, bookIn}
+use Rattle.book.specs.Viewed.{rateOf, amountOf, columnsOf, bookOf, bookIn}
 use Rattle.book.proofs.Book as book
 use Rattle.book.proofs.Order.{columns-back}
-use Rattle.book.proofs.Storing.{Sized, placedTo, one-placed, book-placed}
+use Rattle.book.proofs.Storing.{Sized, book-stored}
 use Rattle.tender.specs.declared.internal.Accepted.{Accepted}
 use Rattle.tender.proofs.internal.Accepted as accepted-row
 use Rattle.log.specs.Steps.{holdsField}
@@ -38,15 +38,6 @@ use Rattle.journal.proofs.Logging.{journalOf, wrote-within, field-taken
 use Rattle.journal.proofs.run.Statement.{statement}
 use Rattle.journal.proofs.run.Tie as tie
 
--- the places of a message up to the i-th are stored
-abbrev Inv-loop2 : tie.InvT-loop2
-Inv-loop2 input space ended opened codes n state terms columns₀ at length₁ room end taken accepted k i₀ columns i =
-    (i ≤ 10) × (k < 64) × (length (accepted .rates) ≡ 10) × (length (accepted .amounts) ≡ 10) × (length (columns₀ .rates) ≡ 640) × (length (columns₀ .amounts) ≡ 640)
-    × (columns ≡ placedTo columns₀ k i (accepted .rates) (accepted .amounts))
-
-abbrev μ-loop2 : tie.MeasureT-loop2
-μ-loop2 input space ended opened codes n state terms columns₀ at length₁ room end taken accepted k i₀ columns i = 10 - i
-
 abbrev Inv-loop : tie.InvT-loop
 Inv-loop input space₀ ended₀ opened₀ codes₀ n₀ state₀ terms₀ columns₀ at₀ length₀ room space ended opened codes n state terms columns at length =
     Logging input space₀ (journalOf ended₀ (parts opened₀ codes₀ n₀ state₀ terms₀ (bookIn columns₀))) space (journalOf ended (parts opened codes n state terms (bookIn columns))) at length
@@ -54,33 +45,33 @@ Inv-loop input space₀ ended₀ opened₀ codes₀ n₀ state₀ terms₀ colum
 abbrev μ-loop : tie.MeasureT-loop
 μ-loop input space₀ ended₀ opened₀ codes₀ n₀ state₀ terms₀ columns₀ at₀ length₀ room space ended opened codes n state terms columns at m = length input - at
 
-state-requires : tie.Need-state-requires Inv-loop2 μ-loop2 Inv-loop μ-loop
+state-requires : tie.Need-state-requires Inv-loop μ-loop
 state-requires c κs = search needs
 
-terms-requires : tie.Need-terms-requires Inv-loop2 μ-loop2 Inv-loop μ-loop
+terms-requires : tie.Need-terms-requires Inv-loop μ-loop
 terms-requires c κs = search needs
 
-book-requires : tie.Need-book-requires Inv-loop2 μ-loop2 Inv-loop μ-loop
+book-requires : tie.Need-book-requires Inv-loop μ-loop
 book-requires c κs = search needs
 
-columns-of-requires : tie.Need-columns-of-requires Inv-loop2 μ-loop2 Inv-loop μ-loop
+columns-of-requires : tie.Need-columns-of-requires Inv-loop μ-loop
 columns-of-requires c κs = search needs
 
 -- the call, and the loop, the turn and the head of the field that a later place looks back to
-abbrev startOf : tie.At-loop Inv-loop2 μ-loop2 Inv-loop μ-loop → tie.Start Inv-loop2 μ-loop2 Inv-loop μ-loop
+abbrev startOf : tie.At-loop Inv-loop μ-loop → tie.Start Inv-loop μ-loop
 startOf c = c .before .before .before .before .before .before .before .before .before
 
-abbrev loopOf : tie.Then1 Inv-loop2 μ-loop2 Inv-loop μ-loop → tie.At-loop Inv-loop2 μ-loop2 Inv-loop μ-loop
+abbrev loopOf : tie.Then1 Inv-loop μ-loop → tie.At-loop Inv-loop μ-loop
 loopOf c = c .before .before
 
-abbrev headOf : tie.After-step Inv-loop2 μ-loop2 Inv-loop μ-loop → tie.After-length-at Inv-loop2 μ-loop2 Inv-loop μ-loop
+abbrev headOf : tie.After-step Inv-loop μ-loop → tie.After-length-at Inv-loop μ-loop
 headOf c = c .before .before .before .before .before .before .before .before .before .before .before .before .before .before .before
 
 -- the lengths that arrays have by their types
 sized : (b : Book) (vs : List Val) → Is book.the-row b vs → Sized b
 sized b vs p = record { codes-length = search needs; held-length = search needs; has-length = search (needs, length-mapped); rates-length = search (needs, length-mapped); amounts-length = search (needs, length-mapped) }
 
-codes-full : (c : tie.Start Inv-loop2 μ-loop2 Inv-loop μ-loop) → length (c .args .j .codes) ≡ 65
+codes-full : (c : tie.Start Inv-loop μ-loop) → length (c .args .j .codes) ≡ 65
 codes-full c = search needs
 
 -- columns of a book are those of that book
@@ -88,7 +79,7 @@ of-book : (b : Book) (c : Columns) → c ≡ columnsOf b → bookIn c ≡ b
 of-book b c e = ap bookIn e ∙ columns-back b
 
 -- the journal is that of its parts
-whole-journal : (c : tie.After-columns-of Inv-loop2 μ-loop2 Inv-loop μ-loop)
+whole-journal : (c : tie.After-columns-of Inv-loop μ-loop)
     → (let a = c .before .before .before .before .before .before .before .before .args in
     journalOf (a .j .ended) (parts (a .j .opened) (a .j .codes) (a .j .n) (c .before .before .before .state .result) (c .before .before .terms .result) (bookIn (c .columns-of .result))) ≡ a .j)
 whole-journal c =
@@ -96,34 +87,34 @@ whole-journal c =
     let b = of-book (c .before .book .result) (c .columns-of .result) (c .columns-of .ensures) ∙ c .before .book .ensures in
     λ i. record { ended = a .j .ended; opened = a .j .opened; codes = a .j .codes; n = a .j .n; tender = record { state = c .before .before .before .state .ensures i; terms = c .before .before .terms .ensures i; book = b i } }
 
-loop-holds : tie.Need-loop-holds Inv-loop2 μ-loop2 Inv-loop μ-loop
+loop-holds : tie.Need-loop-holds Inv-loop μ-loop
 loop-holds c =
     let start = c .before .before .before .before .before .before .before .before in
     none-logged (now (start .args .input)) (now (start .args .space)) _ (subst Given (sym (whole-journal c)) (start .pre)) (codes-full start)
     (subst Sized (sym (of-book (c .before .book .result) (c .columns-of .result) (c .columns-of .ensures))) (sized (c .before .book .result) _ (c .before .book .ok)))
 
-holds-field-requires : tie.Need-holds-field-requires Inv-loop2 μ-loop2 Inv-loop μ-loop
+holds-field-requires : tie.Need-holds-field-requires Inv-loop μ-loop
 holds-field-requires c κs = c .loop .inv .within
 
-sub-if1 : tie.Need-sub-if1 Inv-loop2 μ-loop2 Inv-loop μ-loop
+sub-if1 : tie.Need-sub-if1 Inv-loop μ-loop
 sub-if1 c = c .before .loop .inv .room
 
 -- a turn finds a whole field, a log that has not ended, and room for any lines
-going : (c : tie.Then1 Inv-loop2 μ-loop2 Inv-loop μ-loop)
+going : (c : tie.Then1 Inv-loop μ-loop)
     → (let l = loopOf c .loop in (c .before .holds-field .result && not (l .ended) && leb 23040 (length (now (startOf (loopOf c) .args .space)) - l .length)) ≡ true)
 going c = c .if1 .taken
 
-field-there : (c : tie.Then1 Inv-loop2 μ-loop2 Inv-loop μ-loop) → holdsField (drop (loopOf c .loop .at) (now (startOf (loopOf c) .args .input))) ≡ true
+field-there : (c : tie.Then1 Inv-loop μ-loop) → holdsField (drop (loopOf c .loop .at) (now (startOf (loopOf c) .args .input))) ≡ true
 field-there c = sym (c .before .holds-field .ensures) ∙ and-left (c .before .holds-field .result) (not (loopOf c .loop .ended)) (and-left (c .before .holds-field .result && not (loopOf c .loop .ended)) _ (going c))
 
-unended : (c : tie.Then1 Inv-loop2 μ-loop2 Inv-loop μ-loop) → loopOf c .loop .ended ≡ false
+unended : (c : tie.Then1 Inv-loop μ-loop) → loopOf c .loop .ended ≡ false
 unended c = not-true (loopOf c .loop .ended) (and-right (c .before .holds-field .result) (not (loopOf c .loop .ended)) (and-left (c .before .holds-field .result && not (loopOf c .loop .ended)) _ (going c)))
 
-roomy : (c : tie.Then1 Inv-loop2 μ-loop2 Inv-loop μ-loop) → 23040 ≤ length (now (startOf (loopOf c) .args .space)) - loopOf c .loop .length
+roomy : (c : tie.Then1 Inv-loop μ-loop) → 23040 ≤ length (now (startOf (loopOf c) .args .space)) - loopOf c .loop .length
 roomy c = leb-true 23040 (length (now (startOf (loopOf c) .args .space)) - loopOf c .loop .length) (and-right (c .before .holds-field .result && not (loopOf c .loop .ended)) _ (going c))
 
 -- the field's head and its end
-headed : (c : tie.Then1 Inv-loop2 μ-loop2 Inv-loop μ-loop) → loopOf c .loop .at + 3 ≤ length (now (startOf (loopOf c) .args .input))
+headed : (c : tie.Then1 Inv-loop μ-loop) → loopOf c .loop .at + 3 ≤ length (now (startOf (loopOf c) .args .input))
 headed c =
     let l = loopOf c .loop in
     let x = now (startOf (loopOf c) .args .input) in
@@ -131,53 +122,53 @@ headed c =
     let d = length-drop (l .at) x in
     omega (arith, h, d)
 
-ends : (c : tie.After-length-at Inv-loop2 μ-loop2 Inv-loop μ-loop) → loopOf (c .before) .loop .at + 3 + c .length-at .result ≤ length (now (startOf (loopOf (c .before)) .args .input))
+ends : (c : tie.After-length-at Inv-loop μ-loop) → loopOf (c .before) .loop .at + 3 + c .length-at .result ≤ length (now (startOf (loopOf (c .before)) .args .input))
 ends c = ends-at (now (startOf (loopOf (c .before)) .args .input)) (loopOf (c .before) .loop .at) (c .length-at .result) (c .length-at .ensures .0) (field-there (c .before))
 
 -- no space is longer than an index, and no input
-space-short : (c : tie.After-slice-known Inv-loop2 μ-loop2 Inv-loop μ-loop) → length (now (c .before .before .args .space)) < 18446744073709551616
+space-short : (c : tie.After-slice-known Inv-loop μ-loop) → length (now (c .before .before .args .space)) < 18446744073709551616
 space-short c = omega arith
 
-slice-short : (c : tie.After-shared-slice-known Inv-loop2 μ-loop2 Inv-loop μ-loop) → length (now (c .before .args .input)) < 18446744073709551616
+slice-short : (c : tie.After-shared-slice-known Inv-loop μ-loop) → length (now (c .before .args .input)) < 18446744073709551616
 slice-short c = omega arith
 
-input-short : (c : tie.At-loop Inv-loop2 μ-loop2 Inv-loop μ-loop) → length (now (startOf c .args .input)) < 18446744073709551616
+input-short : (c : tie.At-loop Inv-loop μ-loop) → length (now (startOf c .args .input)) < 18446744073709551616
 input-short c = slice-short (c .before .before .before .before .before .before .before .before)
 
-add-end : tie.Need-add-end Inv-loop2 μ-loop2 Inv-loop μ-loop
+add-end : tie.Need-add-end Inv-loop μ-loop
 add-end c = let h = headed c in let k = input-short (loopOf c) in omega (arith, h, k)
 
-length-at-requires : tie.Need-length-at-requires Inv-loop2 μ-loop2 Inv-loop μ-loop
+length-at-requires : tie.Need-length-at-requires Inv-loop μ-loop
 length-at-requires c κs = headed c
 
-add-end-2 : tie.Need-add-end-2 Inv-loop2 μ-loop2 Inv-loop μ-loop
+add-end-2 : tie.Need-add-end-2 Inv-loop μ-loop
 add-end-2 c = let h = ends c in let k = input-short (loopOf (c .before)) in omega (arith, h, k)
 
-shared-slice-read-step : tie.Need-shared-slice-read-step Inv-loop2 μ-loop2 Inv-loop μ-loop
+shared-slice-read-step : tie.Need-shared-slice-read-step Inv-loop μ-loop
 shared-slice-read-step c = let h = ends (c .before .before .before .before .before .before .before .before .before .before .before .before) in omega (arith, h)
 
-add-step : tie.Need-add-step Inv-loop2 μ-loop2 Inv-loop μ-loop
+add-step : tie.Need-add-step Inv-loop μ-loop
 add-step c = let h = ends (c .before .before .before .before .before .before .before .before .before .before .before .before) in let k = input-short (c .before .before .before .before .before .before .before .before .before .before .before .before .before .before .before) in omega (arith, h, k)
 
-sub-step : tie.Need-sub-step Inv-loop2 μ-loop2 Inv-loop μ-loop
+sub-step : tie.Need-sub-step Inv-loop μ-loop
 sub-step c = let h = ends (c .before .before .before .before .before .before .before .before .before .before .before .before) in omega (arith, h)
 
-part-step-start : tie.Need-part-step-start Inv-loop2 μ-loop2 Inv-loop μ-loop
+part-step-start : tie.Need-part-step-start Inv-loop μ-loop
 part-step-start c = let h = ends (c .before .before .before .before .before .before .before .before .before .before .before .before) in omega (arith, h)
 
-part-step-end : tie.Need-part-step-end Inv-loop2 μ-loop2 Inv-loop μ-loop
+part-step-end : tie.Need-part-step-end Inv-loop μ-loop
 part-step-end c = let h = ends (c .before .before .before .before .before .before .before .before .before .before .before .before) in omega (arith, h)
 
-sub-step-2 : tie.Need-sub-step-2 Inv-loop2 μ-loop2 Inv-loop μ-loop
+sub-step-2 : tie.Need-sub-step-2 Inv-loop μ-loop
 sub-step-2 c = c .before .before .before .before .before .before .before .before .before .before .before .before .before .before .before .before .loop .inv .room
 
-part-step-start-2 : tie.Need-part-step-start-2 Inv-loop2 μ-loop2 Inv-loop μ-loop
+part-step-start-2 : tie.Need-part-step-start-2 Inv-loop μ-loop
 part-step-start-2 c = let r = c .before .before .before .before .before .before .before .before .before .before .before .before .before .before .before .before .loop .inv .room in omega (arith, r)
 
-part-step-end-2 : tie.Need-part-step-end-2 Inv-loop2 μ-loop2 Inv-loop μ-loop
+part-step-end-2 : tie.Need-part-step-end-2 Inv-loop μ-loop
 part-step-end-2 c = let r = c .before .before .before .before .before .before .before .before .before .before .before .before .before .before .before .before .loop .inv .same in omega (arith, r)
 
-step-requires : tie.Need-step-requires Inv-loop2 μ-loop2 Inv-loop μ-loop
+step-requires : tie.Need-step-requires Inv-loop μ-loop
 step-requires c κs =
     let t = c .before .before .before .before .before .before .before .before .before .before .before .before .before .before .before in
     let l = loopOf t .loop in
@@ -192,161 +183,114 @@ step-requires c κs =
       (record { few = l .inv .given .few; tender = l .inv .given .tender }, omega (arith, left, r)),
     )
 
-enum-told : tie.Need-enum-told Inv-loop2 μ-loop2 Inv-loop μ-loop
+enum-told : tie.Need-enum-told Inv-loop μ-loop
 enum-told c = search needs
 
-enum-told-2 : tie.Need-enum-told-2 Inv-loop2 μ-loop2 Inv-loop μ-loop
+enum-told-2 : tie.Need-enum-told-2 Inv-loop μ-loop
 enum-told-2 c = search needs
 
-enum-known-change : tie.Need-enum-known-change Inv-loop2 μ-loop2 Inv-loop μ-loop
+enum-known-change : tie.Need-enum-known-change Inv-loop μ-loop
 enum-known-change c = search needs
 
 -- the parts of the journal and the field that a turn takes
-abbrev partsIn : tie.At-loop Inv-loop2 μ-loop2 Inv-loop μ-loop → Parts
+abbrev partsIn : tie.At-loop Inv-loop μ-loop → Parts
 partsIn c = let l = c .loop in parts (l .opened) (l .codes) (l .n) (l .state) (l .terms) (bookIn (l .columns))
 
-abbrev fieldIn : tie.After-length-at Inv-loop2 μ-loop2 Inv-loop μ-loop → List ℕ
+abbrev fieldIn : tie.After-length-at Inv-loop μ-loop → List ℕ
 fieldIn c =
     let l = loopOf (c .before) .loop in
     take (l .at + 3 + c .length-at .result - (l .at + 3)) (drop (l .at + 3) (now (startOf (loopOf (c .before)) .args .input)))
 
-abbrev partsOf : tie.After-step Inv-loop2 μ-loop2 Inv-loop μ-loop → Parts
+abbrev partsOf : tie.After-step Inv-loop μ-loop → Parts
 partsOf c = partsIn (loopOf (headOf c .before))
 
-can : (c : tie.After-step Inv-loop2 μ-loop2 Inv-loop μ-loop) → Possible (partsOf c) (fieldIn (headOf c)) (c .step .result .accepted) (c .step .result .change)
+can : (c : tie.After-step Inv-loop μ-loop) → Possible (partsOf c) (fieldIn (headOf c)) (c .step .result .accepted) (c .step .result .change)
 can c = c .step .ensures .can
 
 -- what the change that was found relies on
-can-be : (c : tie.After-step Inv-loop2 μ-loop2 Inv-loop μ-loop) (x : Change) → c .step .result .change ≡ x → Possible (partsOf c) (fieldIn (headOf c)) (c .step .result .accepted) x
+can-be : (c : tie.After-step Inv-loop μ-loop) (x : Change) → c .step .result .change ≡ x → Possible (partsOf c) (fieldIn (headOf c)) (c .step .result .accepted) x
 can-be c x e = subst (Possible (partsOf c) (fieldIn (headOf c)) (c .step .result .accepted)) e (can c)
 
-add-codes-in : tie.Need-add-codes-in Inv-loop2 μ-loop2 Inv-loop μ-loop
+add-codes-in : tie.Need-add-codes-in Inv-loop μ-loop
 add-codes-in c = let h = ends (c .before .before .before .before .before .before .before .before .before .before .before .before .before .before .before .before .before .before .before .before) in let k = input-short (c .before .before .before .before .before .before .before .before .before .before .before .before .before .before .before .before .before .before .before .before .before .before .before) in omega (arith, h, k)
 
-sub-codes-in : tie.Need-sub-codes-in Inv-loop2 μ-loop2 Inv-loop μ-loop
+sub-codes-in : tie.Need-sub-codes-in Inv-loop μ-loop
 sub-codes-in c = let h = ends (c .before .before .before .before .before .before .before .before .before .before .before .before .before .before .before .before .before .before .before .before) in omega (arith, h)
 
-part-codes-in-start : tie.Need-part-codes-in-start Inv-loop2 μ-loop2 Inv-loop μ-loop
+part-codes-in-start : tie.Need-part-codes-in-start Inv-loop μ-loop
 part-codes-in-start c = let h = ends (c .before .before .before .before .before .before .before .before .before .before .before .before .before .before .before .before .before .before .before .before) in omega (arith, h)
 
-part-codes-in-end : tie.Need-part-codes-in-end Inv-loop2 μ-loop2 Inv-loop μ-loop
+part-codes-in-end : tie.Need-part-codes-in-end Inv-loop μ-loop
 part-codes-in-end c = let h = ends (c .before .before .before .before .before .before .before .before .before .before .before .before .before .before .before .before .before .before .before .before) in omega (arith, h)
 
-codes-in-requires : tie.Need-codes-in-requires Inv-loop2 μ-loop2 Inv-loop μ-loop
+codes-in-requires : tie.Need-codes-in-requires Inv-loop μ-loop
 codes-in-requires c κs = let q = can-be (c .before .before .before .before .before .before) _ (c .before .before .change .given .1) in ((q .0, q .1), q .2)
 
-enum-told-3 : tie.Need-enum-told-3 Inv-loop2 μ-loop2 Inv-loop μ-loop
+enum-told-3 : tie.Need-enum-told-3 Inv-loop μ-loop
 enum-told-3 c = search needs
 
-sub-new-book : tie.Need-sub-new-book Inv-loop2 μ-loop2 Inv-loop μ-loop
+sub-new-book : tie.Need-sub-new-book Inv-loop μ-loop
 sub-new-book c = search needs
 
-part-new-book-start : tie.Need-part-new-book-start Inv-loop2 μ-loop2 Inv-loop μ-loop
+part-new-book-start : tie.Need-part-new-book-start Inv-loop μ-loop
 part-new-book-start c = search needs
 
-part-new-book-end : tie.Need-part-new-book-end Inv-loop2 μ-loop2 Inv-loop μ-loop
+part-new-book-end : tie.Need-part-new-book-end Inv-loop μ-loop
 part-new-book-end c =
     let l = c .before .before .before .before .before .before .before .before .before .before .before .before .before .before .before .before .before .before .before .before .before .before .before .before .loop in
     let f = l .inv .given .few in
     let n = l .inv .codes-length in
     omega (arith, f, n)
 
-new-book-requires : tie.Need-new-book-requires Inv-loop2 μ-loop2 Inv-loop μ-loop
+new-book-requires : tie.Need-new-book-requires Inv-loop μ-loop
 new-book-requires c κs = search needs
 
-columns-of-requires-2 : tie.Need-columns-of-requires-2 Inv-loop2 μ-loop2 Inv-loop μ-loop
+columns-of-requires-2 : tie.Need-columns-of-requires-2 Inv-loop μ-loop
 columns-of-requires-2 c κs = search needs
 
-enum-known-change-2 : tie.Need-enum-known-change-2 Inv-loop2 μ-loop2 Inv-loop μ-loop
+enum-known-change-2 : tie.Need-enum-known-change-2 Inv-loop μ-loop
 enum-known-change-2 c = search needs
 
-enum-told-4 : tie.Need-enum-told-4 Inv-loop2 μ-loop2 Inv-loop μ-loop
+enum-told-4 : tie.Need-enum-told-4 Inv-loop μ-loop
 enum-told-4 c = search needs
 
 -- an accepted message has a place in the book, and ten places
-stands : (c : tie.After-enum-told4 Inv-loop2 μ-loop2 Inv-loop μ-loop) → Possible (partsOf (c .before .before .before .before)) (fieldIn (headOf (c .before .before .before .before))) (c .before .before .before .before .step .result .accepted) change.Accepted
+stands : (c : tie.After-enum-told4 Inv-loop μ-loop) → Possible (partsOf (c .before .before .before .before)) (fieldIn (headOf (c .before .before .before .before))) (c .before .before .before .before .step .result .accepted) change.Accepted
 stands c = can-be (c .before .before .before .before) change.Accepted (c .enum-told4 .given .1)
 
 ten-places : (a : Accepted) (vs : List Val) → Is accepted-row.the-row a vs → (length (a .rates) ≡ 10) × (length (a .amounts) ≡ 10)
 ten-places a vs p = (search (needs, length-mapped), search (needs, length-mapped))
 
-taken-places : (c : tie.After-step Inv-loop2 μ-loop2 Inv-loop μ-loop) → (length (c .step .result .accepted .rates) ≡ 10) × (length (c .step .result .accepted .amounts) ≡ 10)
+taken-places : (c : tie.After-step Inv-loop μ-loop) → (length (c .step .result .accepted .rates) ≡ 10) × (length (c .step .result .accepted .amounts) ≡ 10)
 taken-places c = ten-places (c .step .result .accepted) _ (c .step .ok .1 .1 .1 .1 .1 .0)
 
-mul-columns : tie.Need-mul-columns Inv-loop2 μ-loop2 Inv-loop μ-loop
+mul-columns : tie.Need-mul-columns Inv-loop μ-loop
 mul-columns c =
     let h = stands (c .before) .1 in
-    omega (arith, h)
+    let z = c .before .before .before .before .before .before .before .before .before .before .before .before .before .before .before .before .before .before .before .before .before .before .before .loop .inv .sized in
+    omega (arith, h, z .held-length, z .has-length)
 
-element-write-columns : tie.Need-element-write-columns Inv-loop2 μ-loop2 Inv-loop μ-loop
+element-write-columns : tie.Need-element-write-columns Inv-loop μ-loop
 element-write-columns c =
     let h = stands (c .before) .1 in
-    omega (arith, h)
+    let z = c .before .before .before .before .before .before .before .before .before .before .before .before .before .before .before .before .before .before .before .before .before .before .before .loop .inv .sized in
+    omega (arith, h, z .held-length, z .has-length)
 
-element-write-columns-2 : tie.Need-element-write-columns-2 Inv-loop2 μ-loop2 Inv-loop μ-loop
+element-write-columns-2 : tie.Need-element-write-columns-2 Inv-loop μ-loop
 element-write-columns-2 c =
     let h = stands (c .before) .1 in
-    omega (arith, h)
+    let z = c .before .before .before .before .before .before .before .before .before .before .before .before .before .before .before .before .before .before .before .before .before .before .before .loop .inv .sized in
+    omega (arith, h, z .held-length, z .has-length)
 
-loop2-holds : tie.Need-loop2-holds Inv-loop2 μ-loop2 Inv-loop μ-loop
-loop2-holds c =
-    let t = taken-places (c .before .before .before .before .before) in
-    let l = c .before .before .before .before .before .before .before .before .before .before .before .before .before .before .before .before .before .before .before .before .before .before .before .loop in
-    let z = l .inv .sized in
-    (omega arith, stands (c .before) .1, t .0, t .1, sym (length-map (l .columns .rates) rateOf) ∙ z .rates-length, sym (length-map (l .columns .amounts) amountOf) ∙ z .amounts-length, refl)
+put-rates-requires : tie.Need-put-rates-requires Inv-loop μ-loop
+put-rates-requires c κs = stands (c .before .before .before .before) .1
 
-mul-columns-2 : tie.Need-mul-columns-2 Inv-loop2 μ-loop2 Inv-loop μ-loop
-mul-columns-2 c = let q = c .before .loop2 .inv in omega (arith, q .0, q .1)
-
-element-copy-out-columns : tie.Need-element-copy-out-columns Inv-loop2 μ-loop2 Inv-loop μ-loop
-element-copy-out-columns c = let q = c .before .loop2 .inv in omega (arith, q .0, q .1)
-
-mul-columns-3 : tie.Need-mul-columns-3 Inv-loop2 μ-loop2 Inv-loop μ-loop
-mul-columns-3 c = let q = c .before .loop2 .inv in omega (arith, q .0, q .1)
-
-add-columns : tie.Need-add-columns Inv-loop2 μ-loop2 Inv-loop μ-loop
-add-columns c = let q = c .before .loop2 .inv in omega (arith, q .0, q .1)
-
-mul-columns-4 : tie.Need-mul-columns-4 Inv-loop2 μ-loop2 Inv-loop μ-loop
-mul-columns-4 c = let q = c .before .loop2 .inv in omega (arith, q .0, q .1)
-
-element-write-columns-3 : tie.Need-element-write-columns-3 Inv-loop2 μ-loop2 Inv-loop μ-loop
-element-write-columns-3 c = let q = c .before .loop2 .inv in omega (arith, q .0, q .1)
-
-mul-columns-5 : tie.Need-mul-columns-5 Inv-loop2 μ-loop2 Inv-loop μ-loop
-mul-columns-5 c = let q = c .before .loop2 .inv in omega (arith, q .0, q .1)
-
-element-copy-out-columns-2 : tie.Need-element-copy-out-columns-2 Inv-loop2 μ-loop2 Inv-loop μ-loop
-element-copy-out-columns-2 c = let q = c .before .loop2 .inv in omega (arith, q .0, q .1)
-
-mul-columns-6 : tie.Need-mul-columns-6 Inv-loop2 μ-loop2 Inv-loop μ-loop
-mul-columns-6 c = let q = c .before .loop2 .inv in omega (arith, q .0, q .1)
-
-add-columns-2 : tie.Need-add-columns-2 Inv-loop2 μ-loop2 Inv-loop μ-loop
-add-columns-2 c = let q = c .before .loop2 .inv in omega (arith, q .0, q .1)
-
-mul-columns-7 : tie.Need-mul-columns-7 Inv-loop2 μ-loop2 Inv-loop μ-loop
-mul-columns-7 c = let q = c .before .loop2 .inv in omega (arith, q .0, q .1)
-
-element-write-columns-4 : tie.Need-element-write-columns-4 Inv-loop2 μ-loop2 Inv-loop μ-loop
-element-write-columns-4 c = let q = c .before .loop2 .inv in omega (arith, q .0, q .1)
-
-add-i : tie.Need-add-i Inv-loop2 μ-loop2 Inv-loop μ-loop
-add-i c = let q = c .before .loop2 .inv in omega (arith, q .0, q .1)
-
-loop2-less : tie.Need-loop2-less Inv-loop2 μ-loop2 Inv-loop μ-loop
-loop2-less c = let q = c .before .loop2 .inv in omega (arith, q .0, q .1)
-
-loop2-again : tie.Need-loop2-again Inv-loop2 μ-loop2 Inv-loop μ-loop
-loop2-again c =
-    let l = c .before .loop2 in
-    let q = l .inv in
-    let a = c .before .before .before .before .before .before .before .step .result .accepted in
-    (omega (arith, q .0), q .1, q .2, q .3, q .4, q .5, one-placed _ (l .columns) (a .at) (l .i) (a .rates) (a .amounts) (omega (arith, q .0, q .2)) (omega (arith, q .0, q .3)) (q .6))
+put-amounts-requires : tie.Need-put-amounts-requires Inv-loop μ-loop
+put-amounts-requires c κs = stands (c .before .before .before .before .before .before) .1
 
 -- the journal after a turn is that of the log after the field's change
-module _ (c : tie.At-match-came Inv-loop2 μ-loop2 Inv-loop μ-loop) where
-  abbrev stepped : tie.After-step Inv-loop2 μ-loop2 Inv-loop μ-loop
+module _ (c : tie.At-match-came Inv-loop μ-loop) where
+  abbrev stepped : tie.After-step Inv-loop μ-loop
   stepped = c .before .before .before
 
   abbrev before : Parts
@@ -392,14 +336,17 @@ module _ (c : tie.At-match-came Inv-loop2 μ-loop2 Inv-loop μ-loop) where
     | inr (inr (inr (inr (inl x)))) ↦ by (change.InState (x .1 .given .0 .0)) (x .1 .given .1) (λ q. arrives-at (λ i. journalOf ((x .3 ∙ unended-then) i) (parts (x .4 i) (x .5 i) (x .6 i) (x .7 i) (x .8 i) (bookIn (x .9 i)))) (in-state before given full book-sized (x .1 .given .0 .0) q))
     | inr (inr (inr (inr (inr x)))) ↦
         let t = taken-places stepped in
-        let l = loopOf (headOf stepped .before) .loop in
+        let k = loopOf (headOf stepped .before) .loop .columns in
         let a = taken .accepted in
+        let book =
+        ap bookIn (x .15)
+        ∙ (λ i. bookOf (k .n) (k .codes) (set (k .held) (a .at) (a .time)) (set (k .has) (a .at) true) (x .6 .ensures i) (x .8 .ensures i))
+        ∙ book-stored k (a .at) (a .time) (a .rates) (a .amounts) in
         by change.Accepted (x .1 .given .1)
-        (λ q. arrives-at (λ i. journalOf ((x .5 ∙ unended-then) i) (parts (x .6 i) (x .7 i) (x .8 i) (x .9 i) (x .10 i) ((ap bookIn (x .11 ∙ x .3 .inv .6) ∙ book-placed (l .columns) (a .at) (a .time) (x .3 .i) (a .rates) (a .amounts)) i)))
-        (accepted before given full book-sized a (q .0) (q .1) (t .0) (t .1) (x .3 .i) (omega (arith, x .3 .inv .0, x .4 .left))))
+        (λ q. arrives-at (λ i. journalOf ((x .9 ∙ unended-then) i) (parts (x .10 i) (x .11 i) (x .12 i) (x .13 i) (x .14 i) (book i))) (accepted before given full book-sized a (q .0) (q .1) (t .0) (t .1)))
   ]
 
-add-length : tie.Need-add-length Inv-loop2 μ-loop2 Inv-loop μ-loop
+add-length : tie.Need-add-length Inv-loop μ-loop
 add-length c =
     let w = c .before .before .before .before .step in
     let l = c .before .before .before .before .before .before .before .before .before .before .before .before .before .before .before .before .before .before .before .before .before .before .loop in
@@ -409,10 +356,10 @@ add-length c =
     let k = space-short (c .before .before .before .before .before .before .before .before .before .before .before .before .before .before .before .before .before .before .before .before .before .before .before .before .before .before .before .before .before) in
     omega (arith, h, r, o, k)
 
-loop-less : tie.Need-loop-less Inv-loop2 μ-loop2 Inv-loop μ-loop
+loop-less : tie.Need-loop-less Inv-loop μ-loop
 loop-less c = let h = ends (c .before .before .before .before .before .before .before .before .before .before .before .before .before .before .before .before .before .before .before) in omega (arith, h)
 
-loop-again : tie.Need-loop-again Inv-loop2 μ-loop2 Inv-loop μ-loop
+loop-again : tie.Need-loop-again Inv-loop μ-loop
 loop-again c =
     let st = c .before .before .before .before in
     let head = headOf st in
@@ -423,16 +370,16 @@ loop-again c =
     (from-parts (l .ended) (partsOf st) (unended (head .before)) (field-taken (now (startOf (loopOf (head .before)) .args .input)) (l .at) (n .result) (n .ensures .0) (partsOf st) _ _ (w .result) (field-there (head .before)) (w .ensures)))
     (w .kept .1 .1 .1 .1 .1 .1 .1 .1 .1 .1 .1 .1 .1 .0) (ends head) (arrived (c .before))
 
-book-of-requires : tie.Need-book-of-requires Inv-loop2 μ-loop2 Inv-loop μ-loop
+book-of-requires : tie.Need-book-of-requires Inv-loop μ-loop
 book-of-requires c κs = search needs
 
-tender-of-requires : tie.Need-tender-of-requires Inv-loop2 μ-loop2 Inv-loop μ-loop
+tender-of-requires : tie.Need-tender-of-requires Inv-loop μ-loop
 tender-of-requires c κs = search needs
 
-same-length : tie.Need-same-length Inv-loop2 μ-loop2 Inv-loop μ-loop
+same-length : tie.Need-same-length Inv-loop μ-loop
 same-length c = c .before .before .before .before .loop .inv .same
 
-returns : tie.Need-returns Inv-loop2 μ-loop2 Inv-loop μ-loop
+returns : tie.Need-returns Inv-loop μ-loop
 returns c =
     let l = c .before .before .before .before .loop in
     let start = c .before .before .before .before .before .before .before .before .before .before .before .before .before in
@@ -451,8 +398,6 @@ pub run-spec : {M : Type 1} → statement M
 run-spec =
     tie.close
     (tie.spec
-    Inv-loop2
-    μ-loop2
     Inv-loop
     μ-loop
     state-requires
@@ -493,22 +438,8 @@ run-spec =
     mul-columns
     element-write-columns
     element-write-columns-2
-    loop2-holds
-    mul-columns-2
-    element-copy-out-columns
-    mul-columns-3
-    add-columns
-    mul-columns-4
-    element-write-columns-3
-    mul-columns-5
-    element-copy-out-columns-2
-    mul-columns-6
-    add-columns-2
-    mul-columns-7
-    element-write-columns-4
-    add-i
-    loop2-less
-    loop2-again
+    put-rates-requires
+    put-amounts-requires
     add-length
     loop-less
     loop-again
