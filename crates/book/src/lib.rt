@@ -67,7 +67,8 @@ pub fn new_book(codes: &[u32]) -> Book
 pub fn find(b: Book, code: u64) -> Found
     ensures { λ r. ⌜ r ≡ findFrom (viewed b) code 0 ⌝ }
 {
-    find_in(&b.codes, b.n, code)
+    let codes = b.codes;
+    find_in(&codes, b.n, code)
 }
 
 // The columns of a book.

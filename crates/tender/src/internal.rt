@@ -38,7 +38,7 @@ ghost use Rattle.book.specs.Viewed as entries;
 ghost use Rattle.book.specs.Viewed.{upTo64, Lends, Full};
 ghost use Rattle.checks.specs.Columns.{received};
 ghost use Rattle.tender.specs.declared.State.{State};
-ghost use Rattle.tender.specs.Viewed.{viewed, Given, numberOf, tenderOf, isHeld, entriesAfter};
+ghost use Rattle.tender.specs.Viewed.{viewed, numberOf, tenderOf, isHeld, entriesAfter};
 ghost use Rattle.tender.specs.declared.Tender.{Tender};
 ghost use Rattle.tender.specs.Calls.{notClosed, Left, ComesTo, AllotsBids};
 

@@ -240,13 +240,16 @@ impl Tender {
         let state = self.state;
         let terms = self.terms;
         let book = self.book;
+        let codes = book.codes;
+        let held = book.held;
+        let has = book.has;
         let o = outcome_of(
             state,
             terms,
             book.n,
-            &book.codes,
-            &book.held,
-            &book.has,
+            &codes,
+            &held,
+            &has,
             m,
             date,
             time,

@@ -1,6 +1,5 @@
 -- `tender::Tender::allot` meets its contract. Assumes nothing.
 use mathlib.Core.Path.{_≡_, ap, ap₂, _∙_}
-use mathlib.Core.List.{List}
 use Prim.Native.Nat.{ℕ, _*_, _-_, _≤_}
 use native.Mathlib.Nat.{sub-zero}
 use native.Mathlib.Omega.{arith}
@@ -10,7 +9,6 @@ use Rattle.bids.specs.Columns.{bidsOf}
 use Rattle.rules.specs.Calls.{bidsInBook}
 use Rattle.book.specs.declared.Columns.{Columns}
 use Rattle.book.specs.Viewed as book
-use Rattle.book.specs.Viewed.{upTo64}
 use Rattle.book.proofs.Empty.{upTo64-small}
 use Rattle.book.proofs.Order.{bids-in-columns}
 use Rattle.tender.proofs.Allotting.{lent-length, allots}

@@ -32,15 +32,24 @@ use Rattle.tender.proofs.Tender.receive.Tie as tie
 full : (c : tie.Start) → (let b = c .args .self .book in Full (b .codes) (b .held) (b .has))
 full c = record { codes-length = search needs; held-length = search needs; has-length = search (needs, length-mapped) }
 
+slice-aggregate-outcome-of : tie.Need-slice-aggregate-outcome-of
+slice-aggregate-outcome-of c = search needs
+
+slice-aggregate-outcome-of-2 : tie.Need-slice-aggregate-outcome-of-2
+slice-aggregate-outcome-of-2 c = search needs
+
+slice-aggregate-outcome-of-3 : tie.Need-slice-aggregate-outcome-of-3
+slice-aggregate-outcome-of-3 c = search (needs, length-mapped)
+
 outcome-of-requires : tie.Need-outcome-of-requires
 outcome-of-requires c κs =
-    let start = c .before .before .before .before .before .before .before .before .before .before .before in
+    let start = c .before .before .before .before .before .before .before .before .before .before in
     let f = full start in
     (f, ap rising (sym (codes-viewed (start .args .self .book) (f .codes-length))) ∙ start .pre .rises)
 
 -- what the reception comes to in this tender, whose book lends its columns
-comes : (c : tie.After-outcome-of) → (let a = c .before .before .before .before .before .before .before .before .before .before .before .before .args in ComesTo (a .self) (now (a .m)) (a .date) (a .time) (length (now (a .space))) (c .outcome-of .result))
-comes c = c .outcome-of .ensures (c .before .before .before .before .before .before .before .before .before .before .before .before .args .self .book) (record { n-is = refl; codes-are = refl; held-are = refl; has-are = refl })
+comes : (c : tie.After-outcome-of) → (let a = c .before .before .before .before .before .before .before .before .before .before .before .args in ComesTo (a .self) (now (a .m)) (a .date) (a .time) (length (now (a .space))) (c .outcome-of .result))
+comes c = c .outcome-of .ensures (c .before .before .before .before .before .before .before .before .before .before .before .args .self .book) (record { n-is = refl; codes-are = refl; held-are = refl; has-are = refl })
 
 is-refused-requires : tie.Need-is-refused-requires
 is-refused-requires c κs = search needs
@@ -51,7 +60,7 @@ unreceived-requires c κs = search needs
 returns : tie.Need-returns
 returns c =
     let o = c .before .before .before in
-    let start = o .before .before .before .before .before .before .before .before .before .before .before .before in
+    let start = o .before .before .before .before .before .before .before .before .before .before .before in
     let a = start .args in
     let e = c .unreceived .ensures in
     receives-refused (a .self) (start .pre) (received (now (a .m)) (a .date) (a .time) (now (a .space))) (c .unreceived .result) (e .1) (e .2) (e .3) (e .4) (o .outcome-of .result .refusal) (e .0)
@@ -84,7 +93,7 @@ returns-2 c =
     let p = c .before .before .before in
     let l = p .before .before .before in
     let o = l .before .before in
-    let start = o .before .before .before .before .before .before .before .before .before .before .before .before in
+    let start = o .before .before .before .before .before .before .before .before .before .before .before in
     let a = start .args in
     let x = received (now (a .m)) (a .date) (a .time) (now (a .space)) in
     let e = comes o in
@@ -102,6 +111,9 @@ pub receive-spec : {M : Type 1} → statement M
 receive-spec =
     tie.close
     (tie.spec
+    slice-aggregate-outcome-of
+    slice-aggregate-outcome-of-2
+    slice-aggregate-outcome-of-3
     outcome-of-requires
     is-refused-requires
     unreceived-requires
