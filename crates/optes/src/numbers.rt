@@ -1,28 +1,28 @@
 // A whole 6G1 read by one call, which tests the message once. In a readable 6G1 each field stands
 // where the layout puts it, so that its bytes are parts at fixed indices.
+use digits::Digits;
 use digits::has_number;
-use digits::internal::number;
 use digits::number_of;
 use envelope::application::is_6g1;
 use places::Place;
 use places::internal::read_place;
+use words::internal::long_number_at;
+use words::internal::number_at;
 ghost use mathlib.Core.Path.{_≡_};
 ghost use mathlib.Core.Bool.{true};
 ghost use Prim.Native.Nat.{_+_, _≤_};
 ghost use lib.ListN.{length};
 ghost use Rattle.output.specs.Output.{Wrote};
-ghost use Rattle.digits.specs.Decimal.{digitsOf};
 ghost use Rattle.layout.specs.Fields.{readable};
 ghost use Rattle.envelope.specs.Application.{layout6G1};
 ghost use Rattle.optes.specs.Interface.{answered};
 ghost use Rattle.optes.specs.Numbers.{digitNumbers, placeNumbers, fieldsNumbers, placesNumbers, textStarts, numbersRead};
 
 // Writes the number of a digit field and whether it has one.
-fn put_number(numbers: &mut [u64], at: usize, s: &[u8]) -> usize
-    requires { ⌜ (at + 2 ≤ length (now numbers)) × (length (now s) ≤ 19) ⌝ }
-    ensures { λ r. ⌜ Wrote (now (numbers .entry)) at (digitNumbers (digitsOf (now (s .entry)))) (now (numbers .exit)) r × (r ≡ at + 2) ⌝ }
+fn put_number(numbers: &mut [u64], at: usize, d: Digits) -> usize
+    requires { ⌜ at + 2 ≤ length (now numbers) ⌝ }
+    ensures { λ r. ⌜ Wrote (now (numbers .entry)) at (digitNumbers d) (now (numbers .exit)) r × (r ≡ at + 2) ⌝ }
 {
-    let d = number(s);
     numbers[at] = number_of(d);
     numbers[at + 1] = has_number(d) as u64;
     at + 2
@@ -33,12 +33,12 @@ fn put_fields(numbers: &mut [u64], m: &[u8]) -> usize
     requires { ⌜ (readable layout6G1 (now m) ≡ true) × (12 ≤ length (now numbers)) ⌝ }
     ensures { λ r. ⌜ Wrote (now (numbers .entry)) 0 (fieldsNumbers (now (m .entry))) (now (numbers .exit)) r × (r ≡ 12) ⌝ }
 {
-    let recipient = put_number(numbers, 0, &m[9..14]);
-    let cro = put_number(numbers, recipient, &m[17..22]);
-    let date = put_number(numbers, cro, &m[25..36]);
-    let time = put_number(numbers, date, &m[39..47]);
-    let check = put_number(numbers, time, &m[50..56]);
-    put_number(numbers, check, &m[59..64])
+    let recipient = put_number(numbers, 0, number_at(m, 9, 14));
+    let cro = put_number(numbers, recipient, number_at(m, 17, 22));
+    let date = put_number(numbers, cro, long_number_at(m, 25, 36));
+    let time = put_number(numbers, date, number_at(m, 39, 47));
+    let check = put_number(numbers, time, number_at(m, 50, 56));
+    put_number(numbers, check, number_at(m, 59, 64))
 }
 
 // Writes the numbers of a place and whether it is well formed.

@@ -1,17 +1,11 @@
 -- `optes::numbers::put_number` meets its contract. Assumes nothing.
 use borrow.Author.Needs.{needs}
-use mathlib.Core.Path.{ap}
 use native.Mathlib.Omega.{arith}
 use denote.Ref.{now}
 use lib.ListN.{length-set}
-use Rattle.output.proofs.Output.{said}
-use Rattle.optes.specs.Numbers.{digitNumbers}
 use Rattle.optes.proofs.Parts.{wrote-digits}
 use Rattle.optes.proofs.numbers.put_number.Statement.{statement}
 use Rattle.optes.proofs.numbers.put_number.Tie as tie
-
-number-requires : tie.Need-number-requires
-number-requires c κs = search needs
 
 number-of-requires : tie.Need-number-of-requires
 number-of-requires c κs = search needs
@@ -45,16 +39,14 @@ same-length c = search needs
 
 returns : tie.Need-returns
 returns c =
-    let a = c .before .before .before .before .before .args in
-    let d = c .before .before .number .ensures in
-    let w = wrote-digits (now (a .numbers)) (a .at) (c .before .before .number .result) (omega arith) in
-    (said (ap digitNumbers d) (rw (← c .before .number-of .ensures, ← c .has-number .ensures) at w), omega arith)
+    let a = c .before .before .before .args in
+    let w = wrote-digits (now (a .numbers)) (a .at) (a .d) (omega arith) in
+    (rw (← c .before .number-of .ensures, ← c .has-number .ensures) at w, omega arith)
 
 pub put-number-spec : {M : Type 1} → statement M
 put-number-spec =
     tie.close
     (tie.spec
-    number-requires
     number-of-requires
     mul-numbers
     slice-write-numbers
