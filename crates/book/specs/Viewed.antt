@@ -37,13 +37,14 @@ bookOf n codes held has rates amounts = record { codes = codes; n = n; held = he
 abbrev pub bookIn : Columns → Book
 bookIn c = bookOf (c .n) (c .codes) (c .held) (c .has) (c .rates) (c .amounts)
 
--- codes, times and flags that a book lends, with the number of its codes, and the lengths that they have by their types
+-- a book lends these codes, times and flags, and has so many codes; what it holds in its places is left open
 pub record Lends (b : Book) (n : ℕ) (codes held : List ℕ) (has : List Bool) : Type 0 where
   pub n-is : b .n ≡ n
   pub codes-are : b .codes ≡ codes
   pub held-are : b .held ≡ held
   pub has-are : b .has ≡ has
 
+-- codes, times and flags that are lent have the lengths of a book's arrays
 pub record Full (codes held : List ℕ) (has : List Bool) : Type 0 where
   pub codes-length : length codes ≡ 64
   pub held-length : length held ≡ 64

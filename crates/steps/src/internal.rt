@@ -106,6 +106,7 @@ pub fn put_answer(space: &mut [u8], s: &[u8], m: &[u8], r: Refusal, e: Errors) -
 }
 
 // Takes one field, its tag and contents, and writes its lines at the start of the space, which has room for 640 of them.
+// The first n of codes are those of the last A0; the first k of admitted are the tender's, and the slices after it are the other columns of its book.
 pub fn step<'a>(
     opened: bool,
     codes: [u32; 65],

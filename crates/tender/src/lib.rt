@@ -240,6 +240,7 @@ impl Tender {
         let state = self.state;
         let terms = self.terms;
         let book = self.book;
+        // Copied by themselves, since a book that lends a part of itself is copied whole.
         let codes = book.codes;
         let held = book.held;
         let has = book.has;
