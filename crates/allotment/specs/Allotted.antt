@@ -8,5 +8,5 @@ use Rattle.rules.specs.Allotment.{Bid, Offer, total, awards, marginalRate}
 use Rattle.offer.specs.Viewed.{mostBids}
 
 -- whether condition 16 refuses, the marginal rate and the awards; if it does, there is no rate and the awards' space is as it was before
-unfoldable pub allotted : Offer → List Bid → List ℕ → Bool × Option ℕ × List ℕ
-allotted o bs before = cond (ltb mostBids (total bs)) (true, none, before) (false, marginalRate o bs, awards o bs)
+unfoldable pub allottedTo : Offer → List Bid → List ℕ → Bool × Option ℕ × List ℕ
+allottedTo o bs before = cond (ltb mostBids (total bs)) (true, none, before) (false, marginalRate o bs, awards o bs)

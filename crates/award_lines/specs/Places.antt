@@ -5,5 +5,5 @@ use Rattle.digits.specs.Decimal.{digits}
 use Rattle.texts.specs.Texts.{ascii}
 
 -- how a line begins: code and place
-abbrev pub placeText : ℕ → ℕ → List ℕ
-placeText code place = ascii "W " ++ digits 5 code ++ ascii " " ++ digits 2 place
+abbrev pub awardStart : ℕ → ℕ → List ℕ
+awardStart code place = ascii "W " ++ digits 5 code ++ ascii " " ++ digits 2 place

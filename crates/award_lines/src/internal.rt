@@ -16,12 +16,12 @@ ghost use Rattle.bids.specs.Columns.{bidsOf};
 ghost use Rattle.book.specs.declared.Book.{Book};
 ghost use Rattle.book.specs.Viewed.{viewed, codesIn};
 ghost use Rattle.log.specs.Lines.{awardLine, awardLines};
-ghost use Rattle.award_lines.specs.Places.{placeText};
+ghost use Rattle.award_lines.specs.Places.{awardStart};
 
 // Writes code and place of an award.
 fn put_place(space: &mut [u8], at: usize, code: u32, place: u64) -> usize
     requires { ⌜ at + 10 ≤ length (now space) ⌝ }
-    ensures { λ r. ⌜ Wrote (now (space .entry)) at (placeText code place) (now (space .exit)) r × (r ≡ at + 10) ⌝ }
+    ensures { λ r. ⌜ Wrote (now (space .entry)) at (awardStart code place) (now (space .exit)) r × (r ≡ at + 10) ⌝ }
 {
     let number = put(space, at, b"W ");
     let blank = put_digits(space, number, 5, code as u64);

@@ -21,7 +21,7 @@ use Rattle.bids.proofs.Columns.{bids-ten}
 use Rattle.terms.specs.declared.Terms as declared
 use Rattle.terms.specs.Viewed.{viewed}
 use Rattle.checks.specs.Columns.{columnErrors}
-use Rattle.rules.specs.Receiving.{Error, when, senderErrors, placesOf, bidsOf, bidErrors, placeErrors}
+use Rattle.rules.specs.Receiving.{Error, when, senderErrors, messagePlaces, messageBids, bidErrors, placeErrors}
 
 -- errors added, and more added to those, are added together
 pub added : (before between after es fs : List Error) → between ≡ before ++ es → after ≡ between ++ fs → after ≡ before ++ (es ++ fs)
@@ -66,7 +66,7 @@ turned true x y = refl
 turned false x y = refl
 
 pub column-errors : (t : declared.Terms) (codes m : List ℕ) → columnErrors t (fieldsOf m .places) ≡ placeErrors (viewed t codes) m
-unfolding columnErrors placeErrors bidErrors fieldsOf Bids.placesOf placesOf bidsOf
+unfolding columnErrors placeErrors bidErrors fieldsOf Bids.placesOf messagePlaces messageBids
 column-errors t codes m =
-    let ps = placesOf m in
+    let ps = messagePlaces m in
     rw (some-malformed ps, bids-ten (bytesOf Bids m)) (sym (turned (allFormed (map (λ (p : Place). p .formed) ps)) _ _))

@@ -33,5 +33,5 @@ headErrors t m f =
     ++ when (not (sameText (bytesOf Identifier m) (t .identifier))) (ascii "6G0", 303)
 
 -- a message received at a date and time, with space for a reply
-abbrev pub received : List ℕ → ℕ → ℕ → List ℕ → Reception
-received m day second space = record { message = m; date = day; time = second; space = space }
+abbrev pub receptionOf : List ℕ → ℕ → ℕ → List ℕ → Reception
+receptionOf m day second space = record { message = m; date = day; time = second; space = space }

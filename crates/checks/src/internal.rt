@@ -38,7 +38,7 @@ ghost use Rattle.rules.specs.Receiving.{senderErrors, dateErrors, bidErrors, er
 ghost use Rattle.bids.specs.Columns.{bidsFrom};
 ghost use Rattle.errors.specs.Listed.{listed};
 ghost use Rattle.terms.specs.Viewed.{viewed};
-ghost use Rattle.checks.specs.Columns.{columnErrors, headErrors, received};
+ghost use Rattle.checks.specs.Columns.{columnErrors, headErrors, receptionOf};
 
 // Whether the type is another than 6G1.
 fn other_type(m: &[u8]) -> bool
@@ -155,7 +155,7 @@ fn field_errors(m: &[u8], t: Terms, f: Fields, admitted: bool) -> Errors
 pub fn errors_of(m: &[u8], t: Terms, f: Fields, admitted: bool, day: u64, second: u64) -> Errors
     requires { ⌜ readable layout6G1 (now m) ≡ true ⌝ }
     requires { ⌜ f ≡ fieldsOf (now m) ⌝ }
-    ensures { λ r. ⌜ ((codes space : List ℕ) → admitted ≡ any (eqb (numberIn (f .sender))) codes → listed r ≡ errors (viewed t codes) (received (now (m .entry)) day second space)) × (r .n ≤ 15) ⌝ }
+    ensures { λ r. ⌜ ((codes space : List ℕ) → admitted ≡ any (eqb (numberIn (f .sender))) codes → listed r ≡ errors (viewed t codes) (receptionOf (now (m .entry)) day second space)) × (r .n ≤ 15) ⌝ }
 {
     let p = f.places;
     let head = field_errors(m, t, f, admitted);

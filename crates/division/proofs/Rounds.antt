@@ -11,24 +11,24 @@ use lib.Dec.{leb, ltb}
 use lib.Pow.{shr-lt}
 use mir.Val.{boolByte}
 use borrow.Author.Tests.{leb-true, leb-false, ltb-true, ltb-false}
-use Rattle.rules.specs.Allotment.{lengthIn, binaryLength, firstDigits, Division, divisionAt}
+use Rattle.rules.specs.Allotment.{binaryLengthWithin, binaryLength, firstDigits, Division, divisionAt}
 use Rattle.rules.specs.Theorems.{nextRound}
 use Rattle.rules.proofs.Division.{digitAfter, digit-below, next-round}
 
 -- ── leading zeros ──
 
-length-of-zero : (d : ℕ) → lengthIn d 0 ≡ 0
-unfolding lengthIn
+length-of-zero : (d : ℕ) → binaryLengthWithin d 0 ≡ 0
+unfolding binaryLengthWithin
 length-of-zero zero = refl
 length-of-zero (suc d) = refl
 
-leading-and-length-in : (d k n : ℕ) → n ≤ d → n < 2 ^ k → leadingZeros k n + lengthIn d n ≡ k
-unfolding lengthIn leadingZeros
-leading-and-length-in d zero n l h = ap (λ (x : ℕ). 0 + lengthIn d x) (lt-one h) ∙ ap (λ (x : ℕ). 0 + x) (length-of-zero d)
+leading-and-length-in : (d k n : ℕ) → n ≤ d → n < 2 ^ k → leadingZeros k n + binaryLengthWithin d n ≡ k
+unfolding binaryLengthWithin leadingZeros
+leading-and-length-in d zero n l h = ap (λ (x : ℕ). 0 + binaryLengthWithin d x) (lt-one h) ∙ ap (λ (x : ℕ). 0 + x) (length-of-zero d)
 leading-and-length-in d (suc k) zero l h = ap (λ (x : ℕ). suc k + x) (length-of-zero d) ∙ add-zero (suc k)
 leading-and-length-in zero (suc k) (suc n) l h = absurd (not-suc-le-zero l)
 leading-and-length-in (suc d) (suc k) (suc n) l h =
-    add-suc (leadingZeros k (suc n / 2)) (lengthIn d (suc n / 2))
+    add-suc (leadingZeros k (suc n / 2)) (binaryLengthWithin d (suc n / 2))
     ∙ ap suc (leading-and-length-in d k (suc n / 2) (half-le l) (shr-lt k 1 (subst (λ (x : ℕ). suc n < 2 ^ x) (sym (add-one k)) h)))
 
 -- the leading zeros of a number of k digits, and its length, make k

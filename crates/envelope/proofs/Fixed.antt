@@ -9,12 +9,12 @@ use lib.Dec.{eqb}
 use lib.ListN.{length, drop, length-drop}
 use borrow.Author.Tests.{eqb-true, leb-true}
 use Rattle.laws.proofs.Tests.{and-left, and-right}
-use Rattle.layout.specs.Fields.{Entry, oneOf, lengthAt, starts, readable}
+use Rattle.layout.specs.Fields.{FieldEntry, oneOf, lengthAt, starts, readable}
 use Rattle.layout.proofs.Fields.{starts-length}
 use Rattle.envelope.specs.Application.{one}
 
 -- such a layout, from the tags and lengths of its fields
-unfoldable pub fixed : List (ℕ × ℕ) → List Entry
+unfoldable pub fixed : List (ℕ × ℕ) → List FieldEntry
 fixed [] = []
 fixed (f ∷ fs) = one (f .0) (f .1) ∷ fixed fs
 

@@ -7,7 +7,7 @@ use lib.ListN.{length, take, drop, getD}
 use Rattle.calendar.specs.Calendar.{before}
 use Rattle.digits.specs.declared.Digits.the-variants.{None}
 use Rattle.digits.specs.Decimal.{allDigits, digitsOf, numberIn}
-use Rattle.layout.specs.Fields.{Entry, readable, content}
+use Rattle.layout.specs.Fields.{FieldEntry, readable, content}
 use Rattle.places.specs.Bids.{slash}
 use Rattle.texts.specs.Texts.{sameText, ascii}
 use Rattle.envelope.specs.Application.{one, isIdentifier}
@@ -22,7 +22,7 @@ use Rattle.envelope.specs.declared.announcement.Announcement.{Announceme
 
 -- '6G0: 01, 040, 050, 020, D31, 601, 6G0 as above, then 6G1 type (71, 18), 6G2 characteristics (72, 100), 6G3 spot date (73, 8),
 -- 6G4 forward date (74, 8), 6G5 cut-off hhmmss (75, 6)'
-unfoldable pub layout6G0 : List Entry
+unfoldable pub layout6G0 : List FieldEntry
 layout6G0 =
     one 0x01 3
     ∷ one 0x04 5

@@ -7,7 +7,7 @@ use lib.Dec.{eqb, ltb}
 use lib.ListN.{length, take, drop, getD, replicate}
 use Rattle.digits.specs.declared.Digits.the-variants.{None}
 use Rattle.digits.specs.Decimal.{allDigits, digitsOf, digits}
-use Rattle.layout.specs.Fields.{Entry, readable, content, encoded}
+use Rattle.layout.specs.Fields.{FieldEntry, readable, content, encoded}
 use Rattle.places.specs.Bids.{slash, malformed, columns, placesOf, placesText, fits, placesFit}
 use Rattle.envelope.specs.Refusals.{firstHolding, unlessRefused}
 use Rattle.envelope.specs.declared.application.Field.{Field}
@@ -20,12 +20,12 @@ use Rattle.envelope.specs.declared.application.WriteAnswer.{WriteAnswer}
 use Rattle.envelope.specs.declared.application.WriteAnswer.the-variants.{Written, Unfit, NoRoom}
 
 -- an entry of a field that has one length
-abbrev pub one : ℕ → ℕ → Entry
+abbrev pub one : ℕ → ℕ → FieldEntry
 one tag n = record { tag = tag; lengths = n ∷ [] }
 
 -- '6G1: 01 type (tag 01, 3); 040 sender (04, 5); 050 recipient (05, 5); 020 CRO (02, 11); D31 reference date (31, 8);
 -- 601 reference time (60, 6); 010 check digit (10, 5); 6G0 operation identifier (70, 11); 6G6 bids (76, 240); 6GG contact name (7F, 15)'
-unfoldable pub layout6G1 : List Entry
+unfoldable pub layout6G1 : List FieldEntry
 layout6G1 =
     one 0x01 3
     ∷ one 0x04 5

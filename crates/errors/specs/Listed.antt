@@ -9,8 +9,8 @@ use Rattle.rules.specs.Receiving.{Error}
 use Rattle.errors.specs.declared.Errors.{Errors}
 
 -- the codes of each IDC; no code stands under two
-unfoldable pub table : List (List ℕ × List ℕ)
-table =
+unfoldable pub idcTable : List (List ℕ × List ℕ)
+idcTable =
     (900 ∷ [], ascii "001")
     ∷ (309 ∷ 300 ∷ [], ascii "040")
     ∷ (599 ∷ [], ascii "050")
@@ -30,7 +30,7 @@ idcIn (row ∷ rows) code = cond (oneOf (row .0) code) (row .1) (idcIn rows code
 
 -- the error of a code
 unfoldable pub named : ℕ → Error
-named code = (idcIn table code, code)
+named code = (idcIn idcTable code, code)
 
 -- the errors of a list of codes, in order
 abbrev pub listed : Errors → List Error

@@ -9,7 +9,7 @@ use lib.Dec.{eqb, ltb}
 use lib.ListN.{length, take}
 use lib.Seq.{take-take}
 use Rattle.rules.specs.Calls.{Tender, openTender}
-use Rattle.log.specs.Steps.{Log, Step, ending, onTender, admittedIn, admission, opened, announcement, received, reception, closed, closing, revoked, revocation, allotted, allotting, step, tagOf, contentOf, afterField, holdsField, walked, logFrom}
+use Rattle.log.specs.Steps.{Log, Step, ending, onTender, admittedIn, admissionStep, openedStep, announcementStep, received, receptionStep, closed, closingStep, revoked, revocationStep, allotted, allottingStep, step, tagOf, contentOf, afterField, holdsField, walked, logFrom}
 use Rattle.log.proofs.Codes.{first-65-tell}
 use Rattle.steps.specs.Parts.{kept}
 
@@ -42,7 +42,7 @@ admits l none = ends l
 admits l (some codes) = (refl, refl)
 
 -- the step of an A1 by what opening gives
-opens : (l : Log) (p : Option ℕ × Tender) → Alike (opened (kept l) p) (opened l p)
+opens : (l : Log) (p : Option ℕ × Tender) → Alike (openedStep (kept l) p) (openedStep l p)
 opens l (none, t) = ((λ i. record { ended = false; codes = codes-twice l i; tender = some t }), refl)
 opens l (some n, t) = (kept-twice l, refl)
 
@@ -56,28 +56,28 @@ calls l call (some t) = ((λ i. record { ended = false; codes = codes-twice l i;
 
 -- the steps of the tags, A0 to A5, and of any field
 module _ (l : Log) (s : List ℕ) where
-  alike-A0 : Alike (admission (kept l) s) (admission l s)
-  unfolding admission
+  alike-A0 : Alike (admissionStep (kept l) s) (admissionStep l s)
+  unfolding admissionStep
   alike-A0 = admits l (admittedIn s)
 
-  alike-A1 : Alike (announcement (kept l) s) (announcement l s)
-  unfolding announcement
-  alike-A1 = subst (λ (p : Option ℕ × Tender). Alike (opened (kept l) p) (opened l (openTender s (l .codes)))) (sym (first-65-tell s (l .codes))) (opens l (openTender s (l .codes)))
+  alike-A1 : Alike (announcementStep (kept l) s) (announcementStep l s)
+  unfolding announcementStep
+  alike-A1 = subst (λ (p : Option ℕ × Tender). Alike (openedStep (kept l) p) (openedStep l (openTender s (l .codes)))) (sym (first-65-tell s (l .codes))) (opens l (openTender s (l .codes)))
 
-  alike-A2 : Alike (reception (kept l) s) (reception l s)
-  unfolding reception
+  alike-A2 : Alike (receptionStep (kept l) s) (receptionStep l s)
+  unfolding receptionStep
   alike-A2 = either (ltb (length s) 14) (ending (kept l)) (onTender (kept l) (received s)) (ending l) (onTender l (received s)) (ends l) (calls l (received s) (l .tender))
 
-  alike-A3 : Alike (closing (kept l) s) (closing l s)
-  unfolding closing
+  alike-A3 : Alike (closingStep (kept l) s) (closingStep l s)
+  unfolding closingStep
   alike-A3 = either (eqb (length s) 14) (onTender (kept l) (closed s)) (ending (kept l)) (onTender l (closed s)) (ending l) (calls l (closed s) (l .tender)) (ends l)
 
-  alike-A4 : Alike (revocation (kept l) s) (revocation l s)
-  unfolding revocation
+  alike-A4 : Alike (revocationStep (kept l) s) (revocationStep l s)
+  unfolding revocationStep
   alike-A4 = either (eqb (length s) 0) (onTender (kept l) revoked) (ending (kept l)) (onTender l revoked) (ending l) (calls l revoked (l .tender)) (ends l)
 
-  alike-A5 : Alike (allotting (kept l) s) (allotting l s)
-  unfolding allotting
+  alike-A5 : Alike (allottingStep (kept l) s) (allottingStep l s)
+  unfolding allottingStep
   alike-A5 = either (eqb (length s) 0) (onTender (kept l) allotted) (ending (kept l)) (onTender l allotted) (ending l) (calls l allotted (l .tender)) (ends l)
 
 kept-step : (l : Log) (tag : ℕ) (s : List ℕ) → Alike (step (kept l) tag s) (step l tag s)

@@ -30,7 +30,7 @@ use Rattle.tender.specs.Viewed.{tenderOf}
 use Rattle.log.specs.Steps.{Log, ending, step, tagOf, contentOf, holdsField}
 use Rattle.steps.specs.declared.Taken.{Taken}
 use Rattle.steps.specs.Parts as parts
-use Rattle.steps.specs.Parts.{Parts, codesOf, tenderIn, codesFrom, withTender, openedOn, holding, Takes}
+use Rattle.steps.specs.Parts.{Parts, admittedNow, tenderIn, codesFrom, withTender, openedOn, holding, Takes}
 use Rattle.journal.specs.declared.Journal.{Journal}
 use Rattle.journal.specs.Viewed.{viewed, Given}
 use Rattle.journal.specs.Runs.{Runs}
@@ -94,13 +94,13 @@ module _ (p : Parts) (g : parts.Given p) (full : length (p .codes) ≡ 65) (size
       }
 
   -- a tender newly opened
-  pub opened : (t : Terms) (b : Book) → length (codesOf p) ≤ 64 → rising (codesOf p) ≡ true → book.viewed b ≡ newBook (take 64 (codesOf p)) → Sized b
-      → Arrives (withTender p (openedOn t (codesOf p))) (journalOf false (parts.parts true (p .codes) (p .n) state.Open t b))
+  pub opened : (t : Terms) (b : Book) → length (admittedNow p) ≤ 64 → rising (admittedNow p) ≡ true → book.viewed b ≡ newBook (take 64 (admittedNow p)) → Sized b
+      → Arrives (withTender p (openedOn t (admittedNow p))) (journalOf false (parts.parts true (p .codes) (p .n) state.Open t b))
   opened t b few rises new z =
-      let entries = new ∙ new-whole (codesOf p) few in
-      let codes = ap book.codesIn entries ∙ new-codes (codesOf p) in
+      let entries = new ∙ new-whole (admittedNow p) few in
+      let codes = ap book.codesIn entries ∙ new-codes (admittedNow p) in
       record {
-        told = λ i. record { ended = false; codes = codesOf p; tender = some (record { terms = terms.viewed t (sym codes i); state = rules.Open; book = sym entries i }) };
+        told = λ i. record { ended = false; codes = admittedNow p; tender = some (record { terms = terms.viewed t (sym codes i); state = rules.Open; book = sym entries i }) };
         given = record { few = g .few; tender = record { rises = ap rising codes ∙ rises } };
         codes-length = full;
         sized = z;
@@ -110,7 +110,7 @@ module _ (p : Parts) (g : parts.Given p) (full : length (p .codes) ≡ 65) (size
   pub in-state : (x : State) → p .opened ≡ true → Arrives (withTender p (rules.inState (tender.stateOf x) (tenderIn p))) (journalOf false (parts.parts (p .opened) (p .codes) (p .n) x (p .terms) (p .book)))
   in-state x o =
       record {
-        told = λ i. record { ended = false; codes = codesOf p; tender = sym (ap (λ (b : Bool). cond b (some (rules.inState (tender.stateOf x) (tenderIn p))) none) o) i };
+        told = λ i. record { ended = false; codes = admittedNow p; tender = sym (ap (λ (b : Bool). cond b (some (rules.inState (tender.stateOf x) (tenderIn p))) none) o) i };
         given = record { few = g .few; tender = record { rises = g .tender .rises } };
         codes-length = full;
         sized = sized;
@@ -125,8 +125,8 @@ module _ (p : Parts) (g : parts.Given p) (full : length (p .codes) ≡ 65) (size
       let codes = ap book.codesIn there ∙ replaced-codes (book.viewed (p .book)) (a .at) (a .time) (bidsFrom (a .rates) (a .amounts) 0 10) in
       record {
         told =
-            (λ i. record { ended = false; codes = codesOf p; tender = some (record { terms = terms.viewed (p .terms) (sym codes i); state = tender.stateOf (p .state); book = sym there i }) })
-            ∙ (λ i. record { ended = false; codes = codesOf p; tender = sym (ap (λ (b : Bool). cond b (some (tender.viewed (tenderOf (p .state) (p .terms) next))) none) o) i });
+            (λ i. record { ended = false; codes = admittedNow p; tender = some (record { terms = terms.viewed (p .terms) (sym codes i); state = tender.stateOf (p .state); book = sym there i }) })
+            ∙ (λ i. record { ended = false; codes = admittedNow p; tender = sym (ap (λ (b : Bool). cond b (some (tender.viewed (tenderOf (p .state) (p .terms) next))) none) o) i });
         given = record { few = g .few; tender = record { rises = ap rising codes ∙ g .tender .rises } };
         codes-length = full;
         sized =

@@ -10,7 +10,7 @@ use lib.ListN.{length, take, drop, getD, length-drop}
 use lib.Seq.{drop-drop, getD-drop}
 use borrow.Author.Tests.{le-leb, lt-leb, eq-eqb, ne-eqb, leb-true, eqb-true}
 use Rattle.laws.proofs.Tests.{and-left, and-right, same-test}
-use Rattle.layout.specs.Fields.{Entry, entry, oneOf, lengthAt, starts, readable, layoutOf, offset, content, whole}
+use Rattle.layout.specs.Fields.{FieldEntry, entry, oneOf, lengthAt, starts, readable, layoutOf, offset, content, whole}
 
 -- the length that the head at an index gives
 pub length-at : (m : List ℕ) (at : ℕ) → getD m (at + 1) 0 * 256 + getD m (at + 2) 0 ≡ lengthAt (drop at m)
@@ -26,19 +26,19 @@ one-of-entry tag short long n = go (eqb short long) refl
     go false e = rw e (ap (λ (b : Bool). eqb n short || b) (or-false (eqb n long)))
 
 -- what starts says
-starts-short : (e : Entry) (m : List ℕ) → length m < 3 + lengthAt m → starts e m ≡ false
+starts-short : (e : FieldEntry) (m : List ℕ) → length m < 3 + lengthAt m → starts e m ≡ false
 unfolding starts
 starts-short e m h = rw (lt-leb (3 + lengthAt m) (length m) h)
 
-starts-other : (e : Entry) (m : List ℕ) → (getD m 0 0 ≡ e .tag → ⊥) → starts e m ≡ false
+starts-other : (e : FieldEntry) (m : List ℕ) → (getD m 0 0 ≡ e .tag → ⊥) → starts e m ≡ false
 unfolding starts
 starts-other e m h = rw (ne-eqb (getD m 0 0) (e .tag) h, and-false)
 
-pub starts-is : (e : Entry) (m : List ℕ) → 3 + lengthAt m ≤ length m → getD m 0 0 ≡ e .tag → starts e m ≡ oneOf (e .lengths) (lengthAt m)
+pub starts-is : (e : FieldEntry) (m : List ℕ) → 3 + lengthAt m ≤ length m → getD m 0 0 ≡ e .tag → starts e m ≡ oneOf (e .lengths) (lengthAt m)
 unfolding starts
 starts-is e m h t = rw (le-leb (3 + lengthAt m) (length m) h, eq-eqb (getD m 0 0) (e .tag) t)
 
-module _ (e : Entry) (m : List ℕ) (h : starts e m ≡ true) where
+module _ (e : FieldEntry) (m : List ℕ) (h : starts e m ≡ true) where
   tagged : (leb (3 + lengthAt m) (length m) && eqb (getD m 0 0) (e .tag)) ≡ true
   unfolding starts
   tagged = and-left (leb (3 + lengthAt m) (length m) && eqb (getD m 0 0) (e .tag)) (oneOf (e .lengths) (lengthAt m)) h
@@ -54,20 +54,20 @@ module _ (e : Entry) (m : List ℕ) (h : starts e m ≡ true) where
   starts-length = and-right (leb (3 + lengthAt m) (length m) && eqb (getD m 0 0) (e .tag)) (oneOf (e .lengths) (lengthAt m)) h
 
 -- the same at an index of m
-pub short-at : (e : Entry) (m : List ℕ) (at : ℕ) → length m - at < 3 + lengthAt (drop at m) → false ≡ starts e (drop at m)
+pub short-at : (e : FieldEntry) (m : List ℕ) (at : ℕ) → length m - at < 3 + lengthAt (drop at m) → false ≡ starts e (drop at m)
 short-at e m at h = sym (starts-short e (drop at m) (rw length-drop h))
 
 pub first-byte : (m : List ℕ) (at : ℕ) → getD (drop at m) 0 0 ≡ getD m at 0
 first-byte m at = getD-drop at m 0 0 ∙ ap (λ (k : ℕ). getD m k 0) (add-zero at)
 
-pub other-at : (e : Entry) (m : List ℕ) (at : ℕ) → (getD m at 0 ≡ e .tag → ⊥) → false ≡ starts e (drop at m)
+pub other-at : (e : FieldEntry) (m : List ℕ) (at : ℕ) → (getD m at 0 ≡ e .tag → ⊥) → false ≡ starts e (drop at m)
 other-at e m at h = sym (starts-other e (drop at m) (λ t. h (sym (first-byte m at) ∙ t)))
 
 pub is-at : (tag short long : ℕ) (m : List ℕ) (at n : ℕ) → n ≡ lengthAt (drop at m) → 3 + n ≤ length m - at → getD m at 0 ≡ tag → (eqb n short || eqb n long) ≡ starts (entry tag short long) (drop at m)
 is-at tag short long m at n e h t =
     sym (starts-is (entry tag short long) (drop at m) (rw (length-drop, ← e) h) (first-byte m at ∙ t) ∙ ap (oneOf (entry tag short long .lengths)) (sym e) ∙ one-of-entry tag short long n)
 
-pub fits-at : (e : Entry) (m : List ℕ) (at : ℕ) → starts e (drop at m) ≡ true → 3 + lengthAt (drop at m) ≤ length m - at
+pub fits-at : (e : FieldEntry) (m : List ℕ) (at : ℕ) → starts e (drop at m) ≡ true → 3 + lengthAt (drop at m) ≤ length m - at
 fits-at e m at h = rw length-drop at (starts-fits e (drop at m) h)
 
 -- the layout in the code's bytes
@@ -92,11 +92,11 @@ pub layout-end : (l : List ℕ) (k : ℕ) → length l - k < 3 → layoutOf (dro
 layout-end l k h = none3 (drop k l) (rw length-drop h)
 
 -- a turn of the loop over the layout
-pub readable-no : (e : Entry) (es : List Entry) (m : List ℕ) → starts e m ≡ false → readable (e ∷ es) m ≡ false
+pub readable-no : (e : FieldEntry) (es : List FieldEntry) (m : List ℕ) → starts e m ≡ false → readable (e ∷ es) m ≡ false
 unfolding readable
 readable-no e es m h = rw h
 
-pub readable-more : (e : Entry) (es : List Entry) (m : List ℕ) (at n : ℕ) → n ≡ lengthAt (drop at m) → starts e (drop at m) ≡ true → readable (e ∷ es) (drop at m) ≡ readable es (drop (at + 3 + n) m)
+pub readable-more : (e : FieldEntry) (es : List FieldEntry) (m : List ℕ) (at n : ℕ) → n ≡ lengthAt (drop at m) → starts e (drop at m) ≡ true → readable (e ∷ es) (drop at m) ≡ readable es (drop (at + 3 + n) m)
 unfolding readable
 readable-more e es m at n l h = rw (h, l, drop-drop, add-assoc)
 

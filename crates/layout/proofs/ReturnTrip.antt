@@ -10,11 +10,11 @@ use lib.ListN.{length, take, drop, getD, length-append, length-drop, take-append
 use lib.Seq.{drop-drop, take-at, drop-at, length-take-le}
 use borrow.Author.Tests.{le-leb, ltb-true, eqb-true, eq-eqb}
 use Rattle.laws.proofs.Tests.{and-left, and-right, or-cases}
-use Rattle.layout.specs.Fields.{Entry, field, oneOf, lengthAt, starts, readable, offset, content, whole, encoded}
+use Rattle.layout.specs.Fields.{FieldEntry, field, oneOf, lengthAt, starts, readable, offset, content, whole, encoded}
 use Rattle.layout.proofs.Fields.{starts-is, starts-fits, starts-tag, starts-length}
 
 -- what readable says of the first field and of the rest
-module _ (e : Entry) (es : List Entry) (m : List ℕ) (h : readable (e ∷ es) m ≡ true) where
+module _ (e : FieldEntry) (es : List FieldEntry) (m : List ℕ) (h : readable (e ∷ es) m ≡ true) where
   first : starts e m ≡ true
   unfolding readable
   first = and-left (starts e m) (readable es (drop (3 + lengthAt m) m)) h
@@ -24,7 +24,7 @@ module _ (e : Entry) (es : List Entry) (m : List ℕ) (h : readable (e ∷ es) m
   rest = and-right (starts e m) (readable es (drop (3 + lengthAt m) m)) h
 
 -- each field of a readable message is whole
-pub whole-of : (es : List Entry) (m : List ℕ) → readable es m ≡ true → (k : ℕ) → k < length es → whole k m ≡ true
+pub whole-of : (es : List FieldEntry) (m : List ℕ) → readable es m ≡ true → (k : ℕ) → k < length es → whole k m ≡ true
 unfolding whole
 whole-of [] m h k l = absurd (not-suc-le-zero l)
 whole-of (e ∷ es) m h zero l = le-leb (3 + lengthAt m) (length m) (starts-fits e m (first e es m h))
@@ -41,10 +41,10 @@ unfolding content offset
 content-suc k m = rw (← drop-drop (offset k (drop (3 + lengthAt m) m)) (3 + lengthAt m))
 
 -- each field of a readable message has one of its entry's lengths
-abbrev none : Entry
+abbrev none : FieldEntry
 none = record { tag = 0; lengths = [] }
 
-length-content : (es : List Entry) (m : List ℕ) → readable es m ≡ true → (k : ℕ) → k < length es → oneOf (getD es k none .lengths) (length (content k m)) ≡ true
+length-content : (es : List FieldEntry) (m : List ℕ) → readable es m ≡ true → (k : ℕ) → k < length es → oneOf (getD es k none .lengths) (length (content k m)) ≡ true
 length-content [] m h k l = absurd (not-suc-le-zero l)
 length-content (e ∷ es) m h zero l = rw (length-first m (starts-fits e m (first e es m h))) (starts-length e m (first e es m h))
 length-content (e ∷ es) m h (suc k) l = rw (content-suc k m) (length-content es (drop (3 + lengthAt m) m) (rest e es m h) k (le-of-suc-le-suc l))
@@ -54,7 +54,7 @@ unfolding oneOf
 one-of-one n k h = eqb-true k n (sym (or-false (eqb k n)) ∙ h)
 
 -- a field whose entry has one length only has that length
-pub length-fixed : (es : List Entry) (m : List ℕ) → readable es m ≡ true → (k : ℕ) → k < length es → (n : ℕ) → getD es k none .lengths ≡ n ∷ [] → length (content k m) ≡ n
+pub length-fixed : (es : List FieldEntry) (m : List ℕ) → readable es m ≡ true → (k : ℕ) → k < length es → (n : ℕ) → getD es k none .lengths ≡ n ∷ [] → length (content k m) ≡ n
 length-fixed es m h k l n e = one-of-one n (length (content k m)) (rw e at (length-content es m h k l))
 
 pub permits-fixed : (n : ℕ) (text : List ℕ) → length text ≡ n → oneOf (n ∷ []) (length text) ≡ true
@@ -66,7 +66,7 @@ unfoldable pub allBelow : List ℕ → Bool
 allBelow [] = true
 allBelow (l ∷ ls) = ltb l 256 && allBelow ls
 
-unfoldable pub narrow : List Entry → Bool
+unfoldable pub narrow : List FieldEntry → Bool
 narrow [] = true
 narrow (e ∷ es) = allBelow (e .lengths) && narrow es
 
@@ -78,16 +78,16 @@ below-of (l ∷ ls) n h o =
     (λ e. let q = eqb-true n l e in let b = ltb-true l 256 (and-left (ltb l 256) (allBelow ls) h) in omega arith)
     (λ e. below-of ls n (and-right (ltb l 256) (allBelow ls) h) e)
 
-small : (e : Entry) (es : List Entry) (n : ℕ) → narrow (e ∷ es) ≡ true → oneOf (e .lengths) n ≡ true → n < 256
+small : (e : FieldEntry) (es : List FieldEntry) (n : ℕ) → narrow (e ∷ es) ≡ true → oneOf (e .lengths) n ≡ true → n < 256
 unfolding narrow
 small e es n h o = below-of (e .lengths) n (and-left (allBelow (e .lengths)) (narrow es) h) o
 
-narrow-rest : (e : Entry) (es : List Entry) → narrow (e ∷ es) ≡ true → narrow es ≡ true
+narrow-rest : (e : FieldEntry) (es : List FieldEntry) → narrow (e ∷ es) ≡ true → narrow es ≡ true
 unfolding narrow
 narrow-rest e es h = and-right (allBelow (e .lengths)) (narrow es) h
 
 -- texts whose lengths a layout permits, one for each entry
-unfoldable pub Permitted : List Entry → List (List ℕ) → Type 0
+unfoldable pub Permitted : List FieldEntry → List (List ℕ) → Type 0
 Permitted [] [] = Unit {0}
 Permitted [] (t ∷ ts) = ⊥
 Permitted (e ∷ es) [] = ⊥
@@ -105,14 +105,14 @@ content-first t s r h = rw (length-head t s r h) (unfold field in take-at s r (l
 drop-first : (t : ℕ) (s r : List ℕ) → length s < 65536 → drop (3 + lengthAt (field t s ++ r)) (field t s ++ r) ≡ r
 drop-first t s r h = rw (length-head t s r h, ← drop-drop (length s) 3) (unfold field in drop-at s r (length s) refl)
 
-first-starts : (e : Entry) (s r : List ℕ) → length s < 65536 → oneOf (e .lengths) (length s) ≡ true → starts e (field (e .tag) s ++ r) ≡ true
+first-starts : (e : FieldEntry) (s r : List ℕ) → length s < 65536 → oneOf (e .lengths) (length s) ≡ true → starts e (field (e .tag) s ++ r) ≡ true
 first-starts e s r h p =
     let n = length-head (e .tag) s r h in
     starts-is e (field (e .tag) s ++ r) (rw n (unfold field in simp length-append (omega arith))) (unfold field in refl)
     ∙ rw n p
 
 -- fields written are readable
-pub readable-encoded : (es : List Entry) (ts : List (List ℕ)) → narrow es ≡ true → Permitted es ts → readable es (encoded es ts) ≡ true
+pub readable-encoded : (es : List FieldEntry) (ts : List (List ℕ)) → narrow es ≡ true → Permitted es ts → readable es (encoded es ts) ≡ true
 unfolding encoded readable Permitted
 readable-encoded [] [] w p = refl
 readable-encoded [] (t ∷ ts) w p = absurd p
@@ -123,7 +123,7 @@ readable-encoded (e ∷ es) (t ∷ ts) w p =
     rw (first-starts e t r (omega arith) (p .0), drop-first (e .tag) t r (omega arith)) (readable-encoded es ts (narrow-rest e es w) (p .1))
 
 -- and each is read back
-pub content-encoded : (es : List Entry) (ts : List (List ℕ)) → narrow es ≡ true → Permitted es ts → (k : ℕ) → k < length es → content k (encoded es ts) ≡ getD ts k []
+pub content-encoded : (es : List FieldEntry) (ts : List (List ℕ)) → narrow es ≡ true → Permitted es ts → (k : ℕ) → k < length es → content k (encoded es ts) ≡ getD ts k []
 unfolding encoded Permitted
 content-encoded [] ts w p k l = absurd (not-suc-le-zero l)
 content-encoded (e ∷ es) [] w p k l = absurd p
@@ -161,7 +161,7 @@ nil [] h = refl
 nil (x ∷ xs) h = absurd (let z : ⊥ = omega arith in z)
 
 -- a readable message is the contents of its fields, written again
-pub encoded-back : (es : List Entry) (ts : List (List ℕ)) (m : List ℕ) → narrow es ≡ true → readable es m ≡ true → length ts ≡ length es → Contents 0 ts m → encoded es ts ≡ m
+pub encoded-back : (es : List FieldEntry) (ts : List (List ℕ)) (m : List ℕ) → narrow es ≡ true → readable es m ≡ true → length ts ≡ length es → Contents 0 ts m → encoded es ts ≡ m
 unfolding encoded readable Contents
 encoded-back [] ts m w h l c = nil m (eqb-true (length m) 0 h)
 encoded-back (e ∷ es) [] m w h l c = absurd (let z : ⊥ = omega arith in z)
@@ -179,7 +179,7 @@ length-of : (tag : ℕ) (t : List ℕ) → length (field tag t) ≡ 3 + length t
 unfolding field
 length-of tag t = omega arith
 
-pub length-encoded : (es : List Entry) (ts : List (List ℕ)) → length ts ≡ length es → length (encoded es ts) ≡ sizes ts
+pub length-encoded : (es : List FieldEntry) (ts : List (List ℕ)) → length ts ≡ length es → length (encoded es ts) ≡ sizes ts
 unfolding encoded sizes
 length-encoded [] [] l = refl
 length-encoded [] (t ∷ ts) l = absurd (let z : ⊥ = omega arith in z)

@@ -13,7 +13,7 @@ unfoldable pub field : ℕ → List ℕ → List ℕ
 field tag text = head tag (length text) ++ text
 
 -- an entry of a layout: a field's tag and the lengths that its contents may have
-pub record Entry : Type 0 where
+pub record FieldEntry : Type 0 where
   pub tag : ℕ
   pub lengths : List ℕ
 
@@ -27,11 +27,11 @@ abbrev pub lengthAt : List ℕ → ℕ
 lengthAt m = getD m 1 0 * 256 + getD m 2 0
 
 -- m starts with a whole field that has the entry's tag and one of its lengths
-unfoldable pub starts : Entry → List ℕ → Bool
+unfoldable pub starts : FieldEntry → List ℕ → Bool
 starts e m = leb (3 + lengthAt m) (length m) && eqb (getD m 0 0) (e .tag) && oneOf (e .lengths) (lengthAt m)
 
 -- 'Fields stand once each, in the order below, with exactly these lengths, and nothing follows'
-unfoldable pub readable : List Entry → List ℕ → Bool
+unfoldable pub readable : List FieldEntry → List ℕ → Bool
 readable [] m = eqb (length m) 0
 readable (e ∷ es) m = starts e m && readable es (drop (3 + lengthAt m) m)
 
@@ -50,16 +50,16 @@ whole zero m = leb (3 + lengthAt m) (length m)
 whole (suc k) m = leb (3 + lengthAt m) (length m) && whole k (drop (3 + lengthAt m) m)
 
 -- the message whose fields have a layout's tags and these contents
-unfoldable pub encoded : List Entry → List (List ℕ) → List ℕ
+unfoldable pub encoded : List FieldEntry → List (List ℕ) → List ℕ
 encoded [] texts = []
 encoded (e ∷ es) [] = []
 encoded (e ∷ es) (text ∷ texts) = field (e .tag) text ++ encoded es texts
 
 -- a layout as the code has it: three bytes for each field, the second length the same where there is one only
-abbrev pub entry : ℕ → ℕ → ℕ → Entry
+abbrev pub entry : ℕ → ℕ → ℕ → FieldEntry
 entry tag short long = record { tag = tag; lengths = cond (eqb short long) (short ∷ []) (short ∷ long ∷ []) }
 
-unfoldable pub layoutOf : List ℕ → List Entry
+unfoldable pub layoutOf : List ℕ → List FieldEntry
 layoutOf [] = []
 layoutOf (t ∷ []) = []
 layoutOf (t ∷ a ∷ []) = []

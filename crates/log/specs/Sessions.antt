@@ -45,27 +45,27 @@ unfoldable pub refusedWith : List ℕ → List ℕ
 refusedWith number = ascii "R ----- " ++ number ++ lineEnd
 
 -- a tender opened for the three codes, or for one, and an application to it
-unfoldable pub opening : List ℕ
-opening = field 0xA0 (ascii "900019000290003") ++ field 0xA1 announcement
+unfoldable pub openingFields : List ℕ
+openingFields = field 0xA0 (ascii "900019000290003") ++ field 0xA1 announcement
 
-unfoldable pub application : ℕ → List ℕ
-application code = receivedAt 103000 (message code 102900 ((120000, 10000) ∷ []))
+unfoldable pub applicationFrom : ℕ → List ℕ
+applicationFrom code = receivedAt 103000 (message code 102900 ((120000, 10000) ∷ []))
 
-unfoldable pub confirmed : List ℕ → List ℕ
-confirmed code = ascii "C 12032012 103000 " ++ code ++ lineEnd
+unfoldable pub confirmedAs : List ℕ → List ℕ
+confirmedAs code = ascii "C 12032012 103000 " ++ code ++ lineEnd
 
 -- sessions and their logs
 unfoldable pub sessions : List (List ℕ × List ℕ)
 sessions =
     (session, printed)
     -- before an accepted A1 fields are skipped, and a refused A1 is none
-    ∷ (application 90001 ++ field 0xA3 (ascii "12032012110001") ++ field 0xA4 [] ++ field 0xA5 [] ++ field 0xA1 [], refusedWith (ascii "01"))
+    ∷ (applicationFrom 90001 ++ field 0xA3 (ascii "12032012110001") ++ field 0xA4 [] ++ field 0xA5 [] ++ field 0xA1 [], refusedWith (ascii "01"))
     ∷ (field 0xA1 [] ++ field 0xA5 [], refusedWith (ascii "01"))
-    ∷ (field 0xA1 announcement ++ application 90001, refusedWith (ascii "07"))
+    ∷ (field 0xA1 announcement ++ applicationFrom 90001, refusedWith (ascii "07"))
     -- a refused A1 keeps the old tender
-    ∷ (opening ++ field 0xA1 [] ++ application 90001, refusedWith (ascii "01") ++ confirmed (ascii "90001"))
+    ∷ (openingFields ++ field 0xA1 [] ++ applicationFrom 90001, refusedWith (ascii "01") ++ confirmedAs (ascii "90001"))
     -- an A0 waits for the next A1
-    ∷ (opening ++ field 0xA0 (ascii "90009") ++ application 90001 ++ field 0xA1 announcement ++ application 90009, confirmed (ascii "90001") ++ confirmed (ascii "90009"))
+    ∷ (openingFields ++ field 0xA0 (ascii "90009") ++ applicationFrom 90001 ++ field 0xA1 announcement ++ applicationFrom 90009, confirmedAs (ascii "90001") ++ confirmedAs (ascii "90009"))
     -- fields of another length end the log, before an accepted A1 too
     ∷ (field 0xA2 (ascii "1203201210300") ++ field 0xA1 [], [])
     ∷ (field 0xA3 (ascii "120320121100010") ++ field 0xA1 [], [])
@@ -78,10 +78,10 @@ sessions =
     ∷ (field 0xA1 [] ++ (0xA1 ∷ 0 ∷ 1 ∷ []), refusedWith (ascii "01"))
     ∷ (field 0xA1 [] ++ (0xA1 ∷ 0 ∷ []), refusedWith (ascii "01"))
     -- clocks: not digits, no date, and the cut-off second
-    ∷ (opening ++ field 0xA3 (ascii "1203201211000A") ++ field 0xA3 (ascii "30022012110001") ++ field 0xA3 (ascii "12032012110000"), refusedWith (ascii "10") ++ refusedWith (ascii "10") ++ refusedWith (ascii "13"))
+    ∷ (openingFields ++ field 0xA3 (ascii "1203201211000A") ++ field 0xA3 (ascii "30022012110001") ++ field 0xA3 (ascii "12032012110000"), refusedWith (ascii "10") ++ refusedWith (ascii "10") ++ refusedWith (ascii "13"))
     -- an empty message; allotting an open tender; twice revoked
-    ∷ (opening ++ field 0xA2 (ascii "12032012103000"), refusedWith (ascii "12"))
-    ∷ (opening ++ field 0xA5 [] ++ field 0xA4 [] ++ field 0xA4 [] ++ field 0xA5 [], refusedWith (ascii "14") ++ refusedWith (ascii "08") ++ refusedWith (ascii "08"))
+    ∷ (openingFields ++ field 0xA2 (ascii "12032012103000"), refusedWith (ascii "12"))
+    ∷ (openingFields ++ field 0xA5 [] ++ field 0xA4 [] ++ field 0xA4 [] ++ field 0xA5 [], refusedWith (ascii "14") ++ refusedWith (ascii "08") ++ refusedWith (ascii "08"))
     ∷ []
 
 abbrev pub SessionsPrinted : Type 0

@@ -49,16 +49,16 @@ groups (suc n) s = andCode (digitsOf (take 5 s)) (groups n (drop 5 s))
 unfoldable pub admittedIn : List ℕ → Option (List ℕ)
 admittedIn s = cond (eqb (length s % 5) 0) (groups (length s / 5) s) none
 
-unfoldable pub admission : Log → List ℕ → Step
-admission l s = elim (admittedIn s) [ none ↦ ending l | some codes ↦ (record { ended = false; codes = codes; tender = l .tender }, []) ]
+unfoldable pub admissionStep : Log → List ℕ → Step
+admissionStep l s = elim (admittedIn s) [ none ↦ ending l | some codes ↦ (record { ended = false; codes = codes; tender = l .tender }, []) ]
 
 -- 'An accepted A1 starts a new tender with the last A0 ..; a refused one keeps the old.'
-abbrev pub opened : Log → Option ℕ × Tender → Step
-opened l (none, t) = (record { ended = false; codes = l .codes; tender = some t }, [])
-opened l (some n, t) = (l, refusedLine n)
+abbrev pub openedStep : Log → Option ℕ × Tender → Step
+openedStep l (none, t) = (record { ended = false; codes = l .codes; tender = some t }, [])
+openedStep l (some n, t) = (l, refusedLine n)
 
-unfoldable pub announcement : Log → List ℕ → Step
-announcement l s = opened l (openTender s (l .codes))
+unfoldable pub announcementStep : Log → List ℕ → Step
+announcementStep l s = openedStep l (openTender s (l .codes))
 
 -- 'A2 reception (date, time, message)'; 'A clock that is not digits counts as invalid': 00000000 is no date
 abbrev pub dateIn : List ℕ → List ℕ
@@ -85,8 +85,8 @@ answerLine (refused n) s = refusedLine n
 abbrev pub received : List ℕ → Tender → Tender × List ℕ
 received s t = (receive t (receptionIn s) .1, answerLine (receive t (receptionIn s) .0) s)
 
-unfoldable pub reception : Log → List ℕ → Step
-reception l s = cond (ltb (length s) 14) (ending l) (onTender l (received s))
+unfoldable pub receptionStep : Log → List ℕ → Step
+receptionStep l s = cond (ltb (length s) 14) (ending l) (onTender l (received s))
 
 -- 'Accepted A1, A3 and A4 print nothing.'
 abbrev pub refusal : Option ℕ → List ℕ
@@ -97,15 +97,15 @@ refusal (some n) = refusedLine n
 abbrev pub closed : List ℕ → Tender → Tender × List ℕ
 closed s t = (close t (dateOf s) (timeOf s) .1, refusal (close t (dateOf s) (timeOf s) .0))
 
-unfoldable pub closing : Log → List ℕ → Step
-closing l s = cond (eqb (length s) 14) (onTender l (closed s)) (ending l)
+unfoldable pub closingStep : Log → List ℕ → Step
+closingStep l s = cond (eqb (length s) 14) (onTender l (closed s)) (ending l)
 
 -- 'A4 revocation'
 abbrev pub revoked : Tender → Tender × List ℕ
 revoked t = (revoke t .1, refusal (revoke t .0))
 
-unfoldable pub revocation : Log → List ℕ → Step
-revocation l s = cond (eqb (length s) 0) (onTender l revoked) (ending l)
+unfoldable pub revocationStep : Log → List ℕ → Step
+revocationStep l s = cond (eqb (length s) 0) (onTender l revoked) (ending l)
 
 -- 'A5 allotment'
 abbrev pub awardsLine : Option ℕ × Tender × Allotted → List ℕ
@@ -115,19 +115,19 @@ awardsLine (some n, t, a) = refusedLine n
 abbrev pub allotted : Tender → Tender × List ℕ
 allotted t = (allot t .1, awardsLine (allot t))
 
-unfoldable pub allotting : Log → List ℕ → Step
-allotting l s = cond (eqb (length s) 0) (onTender l allotted) (ending l)
+unfoldable pub allottingStep : Log → List ℕ → Step
+allottingStep l s = cond (eqb (length s) 0) (onTender l allotted) (ending l)
 
 -- one field: its tag and contents; after its end the log stays as it is
 unfoldable pub step : Log → ℕ → List ℕ → Step
 step l tag s =
     cond (l .ended) (l, [])
-    (cond (eqb tag 0xA0) (admission l s)
-    (cond (eqb tag 0xA1) (announcement l s)
-    (cond (eqb tag 0xA2) (reception l s)
-    (cond (eqb tag 0xA3) (closing l s)
-    (cond (eqb tag 0xA4) (revocation l s)
-    (cond (eqb tag 0xA5) (allotting l s)
+    (cond (eqb tag 0xA0) (admissionStep l s)
+    (cond (eqb tag 0xA1) (announcementStep l s)
+    (cond (eqb tag 0xA2) (receptionStep l s)
+    (cond (eqb tag 0xA3) (closingStep l s)
+    (cond (eqb tag 0xA4) (revocationStep l s)
+    (cond (eqb tag 0xA5) (allottingStep l s)
     (ending l)))))))
 
 -- the first field of a byte string, where it holds one whole

@@ -13,9 +13,9 @@ use Rattle.laws.proofs.Tests.{and-left, and-right}
 use Rattle.laws.proofs.Arrays.{fill-more, fill-all}
 use Rattle.digits.specs.Decimal.{allDigits, numberOf}
 use Rattle.digits.proofs.Reading.{number-shift, number-join, digits-join}
-use Rattle.words.specs.Words.{bytesOf, allSmall, decimal, Lowered, AfterSlash}
+use Rattle.words.specs.Words.{lowBytes, allSmall, decimal, Lowered, AfterSlash}
 use Rattle.places.specs.declared.Place.{Place}
-use Rattle.places.specs.Bids.{slash, wellFormed, malformed, isPlace, placeOf, placesIn}
+use Rattle.places.specs.Bids.{slash, formedPlace, malformed, isPlace, placeOf, placesIn}
 
 -- a place's 24 characters as the words that the code reads: rate; slash and seven digits; eight digits
 drop-take : (k : ℕ) (s : List ℕ) → drop 1 (take (suc k) s) ≡ take k (drop 1 s)
@@ -77,25 +77,25 @@ last-three a r h l e =
     (and-right a r (and-left (a && r) h three), (and-right (a && r) h three, and-right (a && r && h) l e))
 
 pub formed-is : (s : List ℕ) (r h l : ℕ) → Lowered (take 8 s) r → AfterSlash (take 8 (drop 8 s)) h → Lowered (take 8 (drop 16 s)) l
-    → (eqb (h % 256) 0 && allSmall (bytesOf 8 r) && allSmall (bytesOf 8 h) && allSmall (bytesOf 8 l)) ≡ isPlace s
+    → (eqb (h % 256) 0 && allSmall (lowBytes 8 r) && allSmall (lowBytes 8 h) && allSmall (lowBytes 8 l)) ≡ isPlace s
 unfolding isPlace
 formed-is s r h l p q t =
-    apart (eqb (h % 256) 0) (allSmall (bytesOf 8 r)) (allSmall (bytesOf 8 h)) (allSmall (bytesOf 8 l))
+    apart (eqb (h % 256) 0) (allSmall (lowBytes 8 r)) (allSmall (lowBytes 8 h)) (allSmall (lowBytes 8 l))
     ∙ ap₂ _&&_ (q .small ∙ ap₂ (λ (x : ℕ) (d : List ℕ). eqb x slash && allDigits d) (at-slash s) (after-slash s)) (ap₂ _&&_ (p .small) (t .small))
     ∙ crossed (eqb (getD s 8 0) slash) (allDigits (take 7 (drop 9 s))) (allDigits (take 8 s)) (allDigits (take 8 (drop 16 s)))
     ∙ ap (λ (b : Bool). (eqb (getD s 8 0) slash && allDigits (take 8 s)) && b) (sym (ap allDigits (fifteen s) ∙ digits-join (take 7 (drop 9 s)) (take 8 (drop 16 s))))
 
 -- the place that the words make, and where the test fails
 place-is : (s : List ℕ) → length s ≡ 24 → isPlace s ≡ true → (r a b : ℕ) → r ≡ numberOf (take 8 s) → a ≡ numberOf (take 7 (drop 9 s)) → b ≡ numberOf (take 8 (drop 16 s))
-    → wellFormed r (a * 100000000 + b) ≡ placeOf s
+    → formedPlace r (a * 100000000 + b) ≡ placeOf s
 unfolding placeOf
 place-is s l h r a b p q t = rw (h, fifteen-number s l, p, q, t)
 
 pub words-place : (s : List ℕ) → length s ≡ 24 → isPlace s ≡ true → (r h l : ℕ) → Lowered (take 8 s) r → AfterSlash (take 8 (drop 8 s)) h → Lowered (take 8 (drop 16 s)) l
-    → wellFormed (decimal 0 (bytesOf 8 r)) (decimal 0 (bytesOf 8 h) * 100000000 + decimal 0 (bytesOf 8 l)) ≡ placeOf s
+    → formedPlace (decimal 0 (lowBytes 8 r)) (decimal 0 (lowBytes 8 h) * 100000000 + decimal 0 (lowBytes 8 l)) ≡ placeOf s
 words-place s n i r h l p q t =
     let f = parts-of s i in
-    place-is s n i (decimal 0 (bytesOf 8 r)) (decimal 0 (bytesOf 8 h)) (decimal 0 (bytesOf 8 l)) (p .number (f .rate)) (q .number (at-slash s ∙ f .slashed) (ap allDigits (after-slash s) ∙ f .high) ∙ ap numberOf (after-slash s)) (t .number (f .low))
+    place-is s n i (decimal 0 (lowBytes 8 r)) (decimal 0 (lowBytes 8 h)) (decimal 0 (lowBytes 8 l)) (p .number (f .rate)) (q .number (at-slash s ∙ f .slashed) (ap allDigits (after-slash s) ∙ f .high) ∙ ap numberOf (after-slash s)) (t .number (f .low))
 
 pub malformed-is : (s : List ℕ) → isPlace s ≡ false → malformed ≡ placeOf s
 unfolding placeOf

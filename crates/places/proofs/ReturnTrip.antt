@@ -15,7 +15,7 @@ use Rattle.digits.proofs.Writing.{length-digits, written-digits, written-number
 use Rattle.places.specs.declared.Rate.{Rate}
 use Rattle.places.specs.declared.Amount.{Amount}
 use Rattle.places.specs.declared.Place.{Place}
-use Rattle.places.specs.Bids.{slash, wellFormed, malformed, isPlace, placeOf, placesIn, columns, allFormed, placeText, placesText, fits, placesFit}
+use Rattle.places.specs.Bids.{slash, formedPlace, malformed, isPlace, placeOf, placesIn, columns, allFormed, placeText, placesText, fits, placesFit}
 use Rattle.places.proofs.Writing.{length-place}
 
 -- the parts of a place written
@@ -40,7 +40,7 @@ module _ (r : Rate) (a : Amount) where
   text-is-place = rw (text-slash, text-rate, text-amount, written-digits, written-digits)
 
   -- a place written reads back
-  place-back : fits 8 (r .0) ≡ true → fits 15 (a .0) ≡ true → placeOf (placeText r a) ≡ wellFormed (r .0) (a .0)
+  place-back : fits 8 (r .0) ≡ true → fits 15 (a .0) ≡ true → placeOf (placeText r a) ≡ formedPlace (r .0) (a .0)
   unfolding placeOf
   place-back h k =
       rw (text-is-place, text-rate, text-amount, written-number 8 (r .0) (ltb-true (r .0) (10 ^ 8) h), written-number 15 (a .0) (ltb-true (a .0) (10 ^ 15) k))
@@ -79,7 +79,7 @@ formed-is s h = go (isPlace s) refl
   where
     go : (t : Bool) → isPlace s ≡ t → isPlace s ≡ true
     go true e = e
-    go false e = absurd (false≢true (sym (ap (λ (b : Bool). cond b (wellFormed (numberOf (take 8 s)) (numberOf (take 15 (drop 9 s)))) malformed .formed) e) ∙ h))
+    go false e = absurd (false≢true (sym (ap (λ (b : Bool). cond b (formedPlace (numberOf (take 8 s)) (numberOf (take 15 (drop 9 s)))) malformed .formed) e) ∙ h))
 
 module _ (s : List ℕ) (l : length s ≡ 24) (h : isPlace s ≡ true) where
   slashed : getD s 8 0 ≡ slash

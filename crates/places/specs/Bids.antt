@@ -15,8 +15,8 @@ abbrev pub slash : ℕ
 slash = 47
 
 -- a place has a rate and an amount, or neither
-abbrev pub wellFormed : ℕ → ℕ → Place
-wellFormed r a = record { formed = true; rate = record { 0 = r }; amount = record { 0 = a } }
+abbrev pub formedPlace : ℕ → ℕ → Place
+formedPlace r a = record { formed = true; rate = record { 0 = r }; amount = record { 0 = a } }
 
 abbrev pub malformed : Place
 malformed = record { formed = false; rate = record { 0 = 0 }; amount = record { 0 = 0 } }
@@ -26,7 +26,7 @@ unfoldable pub isPlace : List ℕ → Bool
 isPlace s = eqb (getD s 8 0) slash && allDigits (take 8 s) && allDigits (take 15 (drop 9 s))
 
 unfoldable pub placeOf : List ℕ → Place
-placeOf s = cond (isPlace s) (wellFormed (numberOf (take 8 s)) (numberOf (take 15 (drop 9 s)))) malformed
+placeOf s = cond (isPlace s) (formedPlace (numberOf (take 8 s)) (numberOf (take 15 (drop 9 s)))) malformed
 
 -- n places, one after the other
 unfoldable pub placesIn : ℕ → List ℕ → List Place

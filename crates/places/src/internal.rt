@@ -15,22 +15,22 @@ ghost use Prim.Native.Nat.{_+_, _*_, _%_, _≤_};
 ghost use lib.Dec.{eqb};
 ghost use lib.ListN.{length};
 ghost use Rattle.output.specs.Output.{Wrote};
-ghost use Rattle.words.specs.Words.{bytesOf, allSmall, decimal};
-ghost use Rattle.places.specs.Bids.{wellFormed, placeOf, placesOf, placeText, placesText};
+ghost use Rattle.words.specs.Words.{lowBytes, allSmall, decimal};
+ghost use Rattle.places.specs.Bids.{formedPlace, placeOf, placesOf, placeText, placesText};
 
 // Whether the words of rate, slash and seven digits, and eight digits are those of a place.
 fn is_formed(rate: u64, high: u64, low: u64) -> bool
-    ensures { λ r. ⌜ r ≡ (eqb (high % 256) 0 && allSmall (bytesOf 8 rate) && allSmall (bytesOf 8 high) && allSmall (bytesOf 8 low)) ⌝ }
+    ensures { λ r. ⌜ r ≡ (eqb (high % 256) 0 && allSmall (lowBytes 8 rate) && allSmall (lowBytes 8 high) && allSmall (lowBytes 8 low)) ⌝ }
 {
     (high % 256 == 0) & all_small(rate) & all_small(high) & all_small(low)
 }
 
 // The place that they make.
 fn formed_place(rate: u64, high: u64, low: u64) -> Place
-    requires { ⌜ allSmall (bytesOf 8 rate) ≡ true ⌝ }
-    requires { ⌜ allSmall (bytesOf 8 high) ≡ true ⌝ }
-    requires { ⌜ allSmall (bytesOf 8 low) ≡ true ⌝ }
-    ensures { λ r. ⌜ r ≡ wellFormed (decimal 0 (bytesOf 8 rate)) (decimal 0 (bytesOf 8 high) * 100000000 + decimal 0 (bytesOf 8 low)) ⌝ }
+    requires { ⌜ allSmall (lowBytes 8 rate) ≡ true ⌝ }
+    requires { ⌜ allSmall (lowBytes 8 high) ≡ true ⌝ }
+    requires { ⌜ allSmall (lowBytes 8 low) ≡ true ⌝ }
+    ensures { λ r. ⌜ r ≡ formedPlace (decimal 0 (lowBytes 8 rate)) (decimal 0 (lowBytes 8 high) * 100000000 + decimal 0 (lowBytes 8 low)) ⌝ }
 {
     Place {
         formed: true,

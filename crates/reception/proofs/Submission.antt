@@ -12,20 +12,20 @@ use Rattle.envelope.specs.declared.application.Field.the-variants.{Bids}
 use Rattle.envelope.specs.declared.application.Fields.{Fields}
 use Rattle.envelope.specs.Application.{layout6G1, bytesOf, fieldsOf}
 use Rattle.rules.specs.Opening.{Terms, any}
-use Rattle.rules.specs.Receiving.{Reception, Error, Entry, Submission, errors, isEmpty, isSound, submission, placesOf, bidsOf, takes, hold, when, returnedErrors}
+use Rattle.rules.specs.Receiving.{Reception, Error, Entry, Submission, errors, isEmpty, isSound, submission, messagePlaces, messageBids, takes, hold, when, returnedErrors}
 use Rattle.rules.specs.Calls.{bookAfter}
 use Rattle.bids.specs.Columns.{bidsFrom}
 use Rattle.bids.proofs.Columns.{bids-ten}
 use Rattle.book.specs.Viewed.{soundFrom, accepted}
 use Rattle.reception.specs.Submission.{submitted}
 
-bids-of : (m : List ℕ) → bidsFrom (fieldsOf m .places .rates) (fieldsOf m .places .amounts) 0 10 ≡ bidsOf m
-unfolding fieldsOf Bids.placesOf placesOf bidsOf
+bids-of : (m : List ℕ) → bidsFrom (fieldsOf m .places .rates) (fieldsOf m .places .amounts) 0 10 ≡ messageBids m
+unfolding fieldsOf Bids.placesOf messagePlaces messageBids
 bids-of m = bids-ten (bytesOf Bids m)
 
 -- what the code takes from the fields of a message
 pub taken-from : (m : List ℕ) (f : Fields) (code time : ℕ) → f ≡ fieldsOf m → code ≡ numberIn (f .sender) → time ≡ numberIn (f .time)
-    → soundFrom (numberIn (fieldsOf m .sender)) (numberIn (fieldsOf m .time)) (bidsOf m) ≡ soundFrom code time (bidsFrom (f .places .rates) (f .places .amounts) 0 10)
+    → soundFrom (numberIn (fieldsOf m .sender)) (numberIn (fieldsOf m .time)) (messageBids m) ≡ soundFrom code time (bidsFrom (f .places .rates) (f .places .amounts) 0 10)
 taken-from m f code time e c h =
     ap (soundFrom (numberIn (fieldsOf m .sender)) (numberIn (fieldsOf m .time))) (sym (bids-of m))
     ∙ ap (λ (g : Fields). soundFrom (numberIn (g .sender)) (numberIn (g .time)) (bidsFrom (g .places .rates) (g .places .amounts) 0 10)) (sym e)
@@ -46,9 +46,9 @@ module _ (t : Terms) (book : List Entry) (r : Reception) where
 
   -- a sound message is what the code takes it for
   pub submission-is : readable layout6G1 (r .message) ≡ true → (validDate (r .date) && validTime (r .time)) ≡ true → isEmpty (errors t r) ≡ true
-      → submission t r ≡ soundFrom (numberIn (fieldsOf (r .message) .sender)) (numberIn (fieldsOf (r .message) .time)) (bidsOf (r .message))
+      → submission t r ≡ soundFrom (numberIn (fieldsOf (r .message) .sender)) (numberIn (fieldsOf (r .message) .time)) (messageBids (r .message))
   unfolding submission isSound
-  submission-is a b c = ap (λ (x : Bool). record { sound = x; code = numberIn (fieldsOf (r .message) .sender); time = numberIn (fieldsOf (r .message) .time); bids = bidsOf (r .message) }) (rw (a, b, c) refl)
+  submission-is a b c = ap (λ (x : Bool). record { sound = x; code = numberIn (fieldsOf (r .message) .sender); time = numberIn (fieldsOf (r .message) .time); bids = messageBids (r .message) }) (rw (a, b, c) refl)
 
   module _ (s : Submission) (q : submission t r ≡ s) (f : isEmpty (errors t r) ≡ true) where
     returned-is : returnedErrors t book r ≡ when (not (any (takes s) book)) (ascii "601", 302)

@@ -28,7 +28,7 @@ ghost use Rattle.terms.specs.Viewed as terms;
 ghost use Rattle.bids.specs.Columns.{bidsFrom};
 ghost use Rattle.book.specs.declared.Book.{Book};
 ghost use Rattle.book.specs.Viewed.{upTo64, viewed, codesIn, Lends, Full};
-ghost use Rattle.checks.specs.Columns.{received};
+ghost use Rattle.checks.specs.Columns.{receptionOf};
 ghost use Rattle.reception.specs.Submission.{afterJudged, submitted};
 
 // The errors of a readable message with the fields f, received on a day and at a second, and where a book with these codes, times and flags holds it if it has none.
@@ -48,7 +48,7 @@ pub fn judge<'a>(
     requires { ⌜ (validDate day && validTime second) ≡ true ⌝ }
     requires { ⌜ Full (now codes) (now held) (now has) ⌝ }
     requires { ⌜ rising (take (upTo64 n) (now codes)) ≡ true ⌝ }
-    ensures { λ r. ⌜ ((b : Book) (space : List ℕ) → Lends b n (now (codes .entry)) (now (held .entry)) (now (has .entry)) → (listed (r .errors), afterJudged (viewed b) r (bidsFrom (f .places .rates) (f .places .amounts) 0 10)) ≡ submitted (terms.viewed t (codesIn (viewed b))) (viewed b) (received (now (m .entry)) day second space)) × (r .errors .n ≤ 16) × (r .at < 64) ⌝ }
+    ensures { λ r. ⌜ ((b : Book) (space : List ℕ) → Lends b n (now (codes .entry)) (now (held .entry)) (now (has .entry)) → (listed (r .errors), afterJudged (viewed b) r (bidsFrom (f .places .rates) (f .places .amounts) 0 10)) ≡ submitted (terms.viewed t (codesIn (viewed b))) (viewed b) (receptionOf (now (m .entry)) day second space)) × (r .errors .n ≤ 16) × (r .at < 64) ⌝ }
 {
     let sender = f.sender;
     let code = number_of(sender);

@@ -20,7 +20,7 @@ use Rattle.envelope.specs.Application.{layout6G1, bytesOf}
 use Rattle.envelope.proofs.Fields6G1.{length-field}
 use Rattle.rules.specs.Receiving.{Error}
 use Rattle.rules.specs.Replies.{confirmation, errorText, errorTexts, shown}
-use Rattle.errors.specs.Listed.{table, idcIn, named}
+use Rattle.errors.specs.Listed.{idcTable, idcIn, named}
 use Rattle.replies.specs.Texts.{rowIn, slashed}
 
 -- sender and CRO written together
@@ -88,12 +88,12 @@ row-idc [] code = refl
 row-idc (row ∷ rows) code = chosen (oneOf (row .0) code) (row .1) (idcs rows) (rowIn rows code) (idcIn rows code) (row-idc rows code)
 
 -- the code's IDC of a row
-pub idc-at : (code : ℕ) (k : ℕ) → k ≡ rowIn table code → k < 11 → take (3 * k + 3 - 3 * k) (drop (3 * k) (flatten (idcs table))) ≡ idcIn table code
-unfolding idcs table
+pub idc-at : (code : ℕ) (k : ℕ) → k ≡ rowIn idcTable code → k < 11 → take (3 * k + 3 - 3 * k) (drop (3 * k) (flatten (idcs idcTable))) ≡ idcIn idcTable code
+unfolding idcs idcTable
 idc-at code k e h =
     let n : 3 * k + 3 - 3 * k ≡ 3 = omega arith in
-    let c : take 3 (drop (3 * k) (flatten (idcs table))) ≡ getD (idcs table) k [] = chunk 3 (idcs table) [] tt k h in
-    rw (n, c, e) (row-idc table code)
+    let c : take 3 (drop (3 * k) (flatten (idcs idcTable))) ≡ getD (idcs idcTable) k [] = chunk 3 (idcs idcTable) [] tt k h in
+    rw (n, c, e) (row-idc idcTable code)
 
 chosen-length : (b : Bool) (t u : List ℕ) → length t ≡ 3 → length u ≡ 3 → length (cond b t u) ≡ 3
 chosen-length true t u h k = h
@@ -106,9 +106,9 @@ length-in (row ∷ rows) code t =
     let e : length (row .1) ≡ 3 = eqb→eq (length (row .1)) 3 (left (eqb (length (row .1)) 3) (allWide 3 (idcs rows)) t) in
     chosen-length (oneOf (row .0) code) (row .1) (idcIn rows code) e (length-in rows code (right (eqb (length (row .1)) 3) (allWide 3 (idcs rows)) t))
 
-pub length-idc : (code : ℕ) → length (idcIn table code) ≡ 3
-unfolding table idcs
-length-idc code = length-in table code tt
+pub length-idc : (code : ℕ) → length (idcIn idcTable code) ≡ 3
+unfolding idcTable idcs
+length-idc code = length-in idcTable code tt
 
 length-text : (code : ℕ) → length (errorText (named code)) ≡ 9
 unfolding errorText named
@@ -173,7 +173,7 @@ map-snoc (x ∷ xs) code = ap (λ (es : List Error). named x ∷ es) (map-snoc x
 
 -- the code 999 in the fifth place
 pub shown-many : (codes : List ℕ) (n : ℕ) → 5 < n → n ≤ length codes → map named (take 5 (set codes 4 999)) ≡ shown (map named (take n codes))
-unfolding shown named idcIn table oneOf
+unfolding shown named idcIn idcTable oneOf
 shown-many codes n h l =
     let k : length (map named (take n codes)) ≡ n = length-map (take n codes) named ∙ length-take-le n codes l in
     rw (lt-leb (length (map named (take n codes))) 5 (omega arith), take-suc-set codes 4 999 (omega arith), map-snoc, map-take 4 (take n codes), take-take 4 n codes (omega arith)) refl

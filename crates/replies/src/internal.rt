@@ -17,12 +17,12 @@ ghost use Rattle.layout.specs.Fields.{field, readable};
 ghost use Rattle.envelope.specs.declared.application.Field.the-variants.{Sender, Cro};
 ghost use Rattle.envelope.specs.Application.{layout6G1, bytesOf};
 ghost use Rattle.rules.specs.Replies.{confirmation, errorText, errorTexts, shown, returnedMessage};
-ghost use Rattle.errors.specs.Listed.{table, idcIn, named, listed};
+ghost use Rattle.errors.specs.Listed.{idcTable, idcIn, named, listed};
 ghost use Rattle.replies.specs.Texts.{rowIn, slashed};
 
 // The row of a code in the table of IDCs, the row past the last one where no row has it.
 fn row(code: u16) -> usize
-    ensures { λ r. ⌜ (r ≡ rowIn table code) × (r < 11) ⌝ }
+    ensures { λ r. ⌜ (r ≡ rowIn idcTable code) × (r < 11) ⌝ }
 {
     match code {
         900 => 0,
@@ -51,7 +51,7 @@ fn row(code: u16) -> usize
 // Writes the IDC of a code.
 fn put_idc(space: &mut [u8], at: usize, code: u16) -> usize
     requires { ⌜ at + 3 ≤ length (now space) ⌝ }
-    ensures { λ r. ⌜ Wrote (now (space .entry)) at (idcIn table code) (now (space .exit)) r × (r ≡ at + 3) ⌝ }
+    ensures { λ r. ⌜ Wrote (now (space .entry)) at (idcIn idcTable code) (now (space .exit)) r × (r ≡ at + 3) ⌝ }
 {
     let idcs: &[u8] = b"001040050020D316010106G06G66G5999";
     let start = 3 * row(code);

@@ -14,13 +14,13 @@ use Rattle.laws.proofs.Tests.{and-right, or-left, or-right}
 use Rattle.digits.specs.Decimal.{allDigits, numberOf}
 use Rattle.digits.proofs.Reading.{below-length}
 use Rattle.layout.specs.Fields.{readable}
-use Rattle.places.specs.Bids.{slash, wellFormed, malformed, isPlace, placeOf, placesIn}
+use Rattle.places.specs.Bids.{slash, formedPlace, malformed, isPlace, placeOf, placesIn}
 use Rattle.envelope.specs.declared.application.Field.the-variants.{Bids}
 use Rattle.envelope.specs.Refusals.{firstHolding}
 use Rattle.envelope.specs.Application.{layout6G1, bytesOf}
 use Rattle.rules.specs.Allotment.{Bid, noBid, filled, Offer, isIn, keep, total, awards, sum, totalIn}
 use Rattle.rules.specs.Opening.{Terms, any, notAnnouncement, otherOrigin, malformedAnnouncement, unknownType, impossibleNumbers, datesDisordered, badCodes, rising, openingRefused, termsOf, offerOf}
-use Rattle.rules.specs.Receiving.{Reception, placesOf, bidOf, bidsOf, Error, when, errors, isEmpty, isSound, Submission, submission, Entry, newBook, isAfter, isFrom, takes, hold, returnedErrors}
+use Rattle.rules.specs.Receiving.{Reception, messagePlaces, bidOf, messageBids, Error, when, errors, isEmpty, isSound, Submission, submission, Entry, newBook, isAfter, isFrom, takes, hold, returnedErrors}
 use Rattle.rules.specs.Calls.{Open, Closed, Tender, inState, openTender, isRevoked, isOver, clockInvalid, spaceShort, beforeCutOff, isOpen, isAnnounced, bidsInBook, bidsExceed, receivingRefused, answerWith, bookAfter, answerUnless, receive, closingRefused, close, allottingRefused, places640, Allotted, allotment, allot}
 use Rattle.rules.specs.ArrivalOrder.{receiveAll, EnoughSpace, NoConflict, Rearranged, PastCutOff, afterReceptions, afterClosing, latest, bidsOfLatest, finalBids, allFinalBids, finalBook, Settled, ArrivalOrder, AnyLatest}
 use Rattle.rules.proofs.Kept.{mem-keep}
@@ -118,7 +118,7 @@ amount-below : (s : List ℕ) → placeOf s .amount .0 ≤ 999999999999999
 unfolding placeOf
 amount-below s = go (isPlace s) refl
   where
-    go : (x : Bool) → isPlace s ≡ x → cond (isPlace s) (wellFormed (numberOf (take 8 s)) (numberOf (take 15 (drop 9 s)))) malformed .amount .0 ≤ 999999999999999
+    go : (x : Bool) → isPlace s ≡ x → cond (isPlace s) (formedPlace (numberOf (take 8 s)) (numberOf (take 15 (drop 9 s)))) malformed .amount .0 ≤ 999999999999999
     go false e = rw e (omega arith)
     go true e =
         let d : allDigits (take 15 (drop 9 s)) ≡ true = unfold isPlace in and-right (eqb (getD s 8 0) slash && allDigits (take 8 s)) (allDigits (take 15 (drop 9 s))) e in
@@ -132,8 +132,8 @@ unfolding total placesIn
 places-below zero s = omega arith
 places-below (suc n) s = let h = amount-below (take 24 s) in let k = places-below n (drop 24 s) in omega arith
 
-message-below : (m : List ℕ) → total (bidsOf m) ≤ 9999999999999990
-unfolding bidsOf placesOf
+message-below : (m : List ℕ) → total (messageBids m) ≤ 9999999999999990
+unfolding messageBids messagePlaces
 message-below m = let h = places-below 10 (bytesOf Bids m) in omega arith
 
 submission-below : (t : Terms) (r : Reception) → total (submission t r .bids) ≤ 9999999999999990

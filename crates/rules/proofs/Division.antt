@@ -7,15 +7,15 @@ use native.Mathlib.Nat.{sub-zero, add-mul, mul-assoc, mul-add-div-right, mul-add
 use native.Mathlib.Omega.{arith}
 use lib.Arith.{half-le}
 use Rattle.rules.specs.Theorems.{nextRound}
-use Rattle.rules.specs.Allotment.{Bid, Offer, totalBetter, totalEqual, lengthIn, binaryLength, firstDigits, Division, divisionAt, division, share}
+use Rattle.rules.specs.Allotment.{Bid, Offer, totalBetter, totalEqual, binaryLengthWithin, binaryLength, firstDigits, Division, divisionAt, division, share}
 
 -- the digits of a
 
-below-length : (d a : ℕ) → a ≤ d → a < 2 ^ lengthIn d a
-unfolding lengthIn
+below-length : (d a : ℕ) → a ≤ d → a < 2 ^ binaryLengthWithin d a
+unfolding binaryLengthWithin
 below-length zero a h = omega arith
 below-length (suc d) zero h = omega arith
-below-length (suc d) (suc a) h = omega (arith, below-length d (suc a / 2) (half-le h), pow-suc 2 (lengthIn d (suc a / 2)))
+below-length (suc d) (suc a) h = omega (arith, below-length d (suc a / 2) (half-le h), pow-suc 2 (binaryLengthWithin d (suc a / 2)))
 
 -- none of the digits, and all of them
 first-none : (a : ℕ) → firstDigits a 0 ≡ 0

@@ -8,18 +8,18 @@ use Rattle.envelope.specs.Refusals.{firstHolding}
 use Rattle.envelope.specs.Announcement.{layout6G0, lookUp, tenderTypeOf, joined, numbersIn, characteristicsOf, referencesOf, announcementOf}
 use Rattle.envelope.specs.Application.{layout6G1, fieldsOf, isIdentifier, written}
 use Rattle.rules.specs.Opening.{any, notAnnouncement, otherOrigin, wellFormed, malformedAnnouncement, unknownType, impossible, impossibleNumbers, datesDisordered, rising, badCodes, openingRefused, termsOf}
-use Rattle.rules.specs.Receiving.{placesOf, bidsOf, when, senderErrors, dateErrors, gap, fineRate, smallBid, unevenBid, overMaximum, bidErrors, placeErrors, errors, isEmpty, isSound, submission, newEntry, newBook, isAfter, isFrom, takes, hold, returnedErrors}
-use Rattle.rules.specs.Allotment.{filled, betterRate, isIn, isBetter, isEqual, keep, total, totalBetter, totalEqual, lengthIn, binaryLength, firstDigits, divisionAt, division, share, shares, centsLeft, cent, award, awardsFrom, awards, reaches, bestOf, bestRate, marginalRate}
+use Rattle.rules.specs.Receiving.{messagePlaces, messageBids, when, senderErrors, dateErrors, gap, fineRate, smallBid, unevenBid, overMaximum, bidErrors, placeErrors, errors, isEmpty, isSound, submission, newEntry, newBook, isAfter, isFrom, takes, hold, returnedErrors}
+use Rattle.rules.specs.Allotment.{filled, betterRate, isIn, isBetter, isEqual, keep, total, totalBetter, totalEqual, binaryLengthWithin, binaryLength, firstDigits, divisionAt, division, share, shares, centsLeft, cent, award, awardsFrom, awards, reaches, bestOf, bestRate, marginalRate}
 use Rattle.rules.specs.Replies.{confirmation, errorText, errorTexts, shown, returnedMessage}
 use Rattle.rules.specs.Calls.{openTender, isRevoked, isOver, clockInvalid, spaceShort, bidsInBook, receivingRefused, reply, bookAfter, answerTo, answerWith, answerUnless, receive, beforeCutOff, isOpen, isAnnounced, bidsExceed, closingRefused, close, allottingRefused, allot, revokingRefused, revoke, places640, allotment}
 use Rattle.rules.specs.ArrivalOrder.{receiveAll}
-use Rattle.rules.specs.Marked.{announcement, terms, ten, message, reception, codesOf, allHold, found, worked, tenderAfter, answerNumber, answerAfter, shared, marginal, workedAwards, table, MarkedCases}
+use Rattle.rules.specs.Marked.{announcement, terms, ten, message, reception, errorCodes, allHold, found, worked, tenderAfter, answerCode, answerAfter, shared, marginal, workedAwards, table, MarkedCases}
 use Rattle.rules.specs.Rows.{application, opened, rising65, receiving, answer, sixErrors, openingRows, stateRows, errorRows, replyRows, RowsHold}
 
 pub marked-cases : MarkedCases
-unfolding sameText field oneOf starts readable offset content encoded allDigits numberFrom digitsOf digits daysIn isPlace placeOf placesIn placeText placesText firstHolding layout6G0 lookUp tenderTypeOf joined numbersIn characteristicsOf referencesOf announcementOf layout6G1 fieldsOf isIdentifier written any notAnnouncement otherOrigin wellFormed malformedAnnouncement unknownType impossible impossibleNumbers datesDisordered rising badCodes openingRefused termsOf placesOf bidsOf when senderErrors dateErrors gap fineRate smallBid unevenBid overMaximum bidErrors placeErrors errors isEmpty isSound submission newEntry newBook isAfter isFrom takes hold returnedErrors filled betterRate isIn isBetter isEqual keep total totalBetter totalEqual lengthIn binaryLength firstDigits divisionAt division share shares centsLeft cent award awardsFrom awards reaches bestOf bestRate marginalRate openTender isRevoked isOver clockInvalid spaceShort bidsInBook receivingRefused reply bookAfter answerTo answerWith answerUnless receive places640 allotment receiveAll announcement terms ten message reception codesOf allHold found worked tenderAfter answerNumber answerAfter shared marginal workedAwards table
+unfolding sameText field oneOf starts readable offset content encoded allDigits numberFrom digitsOf digits daysIn isPlace placeOf placesIn placeText placesText firstHolding layout6G0 lookUp tenderTypeOf joined numbersIn characteristicsOf referencesOf announcementOf layout6G1 fieldsOf isIdentifier written any notAnnouncement otherOrigin wellFormed malformedAnnouncement unknownType impossible impossibleNumbers datesDisordered rising badCodes openingRefused termsOf messagePlaces messageBids when senderErrors dateErrors gap fineRate smallBid unevenBid overMaximum bidErrors placeErrors errors isEmpty isSound submission newEntry newBook isAfter isFrom takes hold returnedErrors filled betterRate isIn isBetter isEqual keep total totalBetter totalEqual binaryLengthWithin binaryLength firstDigits divisionAt division share shares centsLeft cent award awardsFrom awards reaches bestOf bestRate marginalRate openTender isRevoked isOver clockInvalid spaceShort bidsInBook receivingRefused reply bookAfter answerTo answerWith answerUnless receive places640 allotment receiveAll announcement terms ten message reception errorCodes allHold found worked tenderAfter answerCode answerAfter shared marginal workedAwards table
 marked-cases = tt
 
 pub rows-hold : RowsHold
-unfolding sameText field oneOf starts readable offset content encoded allDigits numberFrom digitsOf digits daysIn isPlace placeOf placesIn placeText placesText firstHolding layout6G0 lookUp tenderTypeOf joined numbersIn characteristicsOf referencesOf announcementOf layout6G1 fieldsOf isIdentifier written any notAnnouncement otherOrigin wellFormed malformedAnnouncement unknownType impossible impossibleNumbers datesDisordered rising badCodes openingRefused termsOf placesOf bidsOf when senderErrors dateErrors gap fineRate smallBid unevenBid overMaximum bidErrors placeErrors errors isEmpty isSound submission newEntry newBook isAfter isFrom takes hold returnedErrors filled keep total confirmation errorText errorTexts shown returnedMessage openTender isRevoked isOver clockInvalid spaceShort bidsInBook receivingRefused reply bookAfter answerTo answerWith answerUnless receive beforeCutOff isOpen isAnnounced bidsExceed closingRefused close allottingRefused allot revokingRefused revoke announcement terms ten message reception codesOf allHold application opened rising65 receiving answer sixErrors openingRows stateRows errorRows replyRows
+unfolding sameText field oneOf starts readable offset content encoded allDigits numberFrom digitsOf digits daysIn isPlace placeOf placesIn placeText placesText firstHolding layout6G0 lookUp tenderTypeOf joined numbersIn characteristicsOf referencesOf announcementOf layout6G1 fieldsOf isIdentifier written any notAnnouncement otherOrigin wellFormed malformedAnnouncement unknownType impossible impossibleNumbers datesDisordered rising badCodes openingRefused termsOf messagePlaces messageBids when senderErrors dateErrors gap fineRate smallBid unevenBid overMaximum bidErrors placeErrors errors isEmpty isSound submission newEntry newBook isAfter isFrom takes hold returnedErrors filled keep total confirmation errorText errorTexts shown returnedMessage openTender isRevoked isOver clockInvalid spaceShort bidsInBook receivingRefused reply bookAfter answerTo answerWith answerUnless receive beforeCutOff isOpen isAnnounced bidsExceed closingRefused close allottingRefused allot revokingRefused revoke announcement terms ten message reception errorCodes allHold application opened rising65 receiving answer sixErrors openingRows stateRows errorRows replyRows
 rows-hold = tt

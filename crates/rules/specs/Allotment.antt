@@ -59,13 +59,13 @@ unfoldable pub totalEqual : Offer → List Bid → ℕ → ℕ
 totalEqual o bs r = total (keep (isEqual o r) bs)
 
 -- 'one for each binary digit of a (a = 0: none)': the digits are dropped lowest first, at most d of them
-unfoldable pub lengthIn : ℕ → ℕ → ℕ
-lengthIn zero a = zero
-lengthIn (suc d) zero = zero
-lengthIn (suc d) (suc a) = suc (lengthIn d (suc a / 2))
+unfoldable pub binaryLengthWithin : ℕ → ℕ → ℕ
+binaryLengthWithin zero a = zero
+binaryLengthWithin (suc d) zero = zero
+binaryLengthWithin (suc d) (suc a) = suc (binaryLengthWithin d (suc a / 2))
 
 unfoldable pub binaryLength : ℕ → ℕ
-binaryLength a = lengthIn a a
+binaryLength a = binaryLengthWithin a a
 
 -- 'the number that a's first k binary digits make, highest first'
 unfoldable pub firstDigits : ℕ → ℕ → ℕ

@@ -48,11 +48,11 @@ terms = termsOf announcement admitted
 abbrev pub Pairs : Type 0
 Pairs = List (ℕ × ℕ)
 
-abbrev pub rateOf : ℕ × ℕ → Rate
-rateOf p = record { 0 = p .0 }
+abbrev pub firstRate : ℕ × ℕ → Rate
+firstRate p = record { 0 = p .0 }
 
-abbrev pub amountOf : ℕ × ℕ → Amount
-amountOf p = record { 0 = p .1 }
+abbrev pub firstAmount : ℕ × ℕ → Amount
+firstAmount p = record { 0 = p .1 }
 
 unfoldable pub ten : Pairs → Pairs
 ten ps = take 10 (ps ++ replicate 10 (0, 0))
@@ -61,7 +61,7 @@ ten ps = take 10 (ps ++ replicate 10 (0, 0))
 unfoldable pub message : ℕ → ℕ → Pairs → List ℕ
 message code time ps =
     written
-    (record { sender = code; recipient = 1000; cro = 1; date = 12032012; time = time; check = 0; rates = map rateOf (ten ps); amounts = map amountOf (ten ps) })
+    (record { sender = code; recipient = 1000; cro = 1; date = 12032012; time = time; check = 0; rates = map firstRate (ten ps); amounts = map firstAmount (ten ps) })
     (ascii "6G1")
     (ascii "T/2012/0001")
     (ascii "CONTACT NAME   ")
@@ -74,12 +74,12 @@ reception time m = record { message = m; date = 12032012; time = time; space = r
 abbrev pub code : Error → ℕ
 code e = e .1
 
-unfoldable pub codesOf : Reception → List ℕ
-codesOf r = map code (errors terms r)
+unfoldable pub errorCodes : Reception → List ℕ
+errorCodes r = map code (errors terms r)
 
 -- the errors of one application by 90001 received at 103000
 unfoldable pub found : Pairs → List ℕ
-found ps = codesOf (reception 103000 (message 90001 102900 ps))
+found ps = errorCodes (reception 103000 (message 90001 102900 ps))
 
 -- 'four receptions with reference times 102900, 103100, 103400 and 102000'
 unfoldable pub worked : List Reception
@@ -94,13 +94,13 @@ unfoldable pub tenderAfter : List Reception → Tender
 tenderAfter rs = receiveAll (openTender announcement admitted .1) rs
 
 -- what a reception is answered after others, as a number: 0 confirmed, else the first error's code, or the refusal
-unfoldable pub answerNumber : Answer → ℕ
-answerNumber (confirmed n) = 0
-answerNumber (returned es n) = getD (map code es) 0 0
-answerNumber (refused n) = n
+unfoldable pub answerCode : Answer → ℕ
+answerCode (confirmed n) = 0
+answerCode (returned es n) = getD (map code es) 0 0
+answerCode (refused n) = n
 
 unfoldable pub answerAfter : List Reception → Reception → ℕ
-answerAfter rs r = answerNumber (receive (tenderAfter rs) r .0)
+answerAfter rs r = answerCode (receive (tenderAfter rs) r .0)
 
 unfoldable pub lengthAfter : List Reception → Reception → ℕ
 lengthAfter rs r = length (receive (tenderAfter rs) r .2)
@@ -148,8 +148,8 @@ table =
     -- the announcement opens a tender
     row 0 (listOf (openingRefused announcement admitted)) []
     -- M1 received 110000 in time, 110001 gives 301
-    ∷ row 1 (codesOf (reception 110000 (message 90001 102900 ((120000, 10000) ∷ [])))) []
-    ∷ row 1 (codesOf (reception 110001 (message 90001 102900 ((120000, 10000) ∷ [])))) (301 ∷ [])
+    ∷ row 1 (errorCodes (reception 110000 (message 90001 102900 ((120000, 10000) ∷ [])))) []
+    ∷ row 1 (errorCodes (reception 110001 (message 90001 102900 ((120000, 10000) ∷ [])))) (301 ∷ [])
     -- M2 amount 20000 passes, 25000 gives 906, 9999 gives 905 alone
     ∷ row 2 (found ((120000, 20000) ∷ [])) []
     ∷ row 2 (found ((120000, 25000) ∷ [])) (906 ∷ [])

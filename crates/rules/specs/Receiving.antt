@@ -26,14 +26,14 @@ pub record Reception : Type 0 where
   pub space : List ℕ
 
 -- the ten places of a message, and their rates and amounts
-unfoldable pub placesOf : List ℕ → List Place
-placesOf m = placesIn 10 (bytesOf Bids m)
+unfoldable pub messagePlaces : List ℕ → List Place
+messagePlaces m = placesIn 10 (bytesOf Bids m)
 
 abbrev pub bidOf : Place → Bid
 bidOf p = record { rate = p .rate .0; amount = p .amount .0 }
 
-unfoldable pub bidsOf : List ℕ → List Bid
-bidsOf m = map bidOf (placesOf m)
+unfoldable pub messageBids : List ℕ → List Bid
+messageBids m = map bidOf (messagePlaces m)
 
 -- an error: its IDC and its code
 abbrev pub Error : Type 0
@@ -84,7 +84,7 @@ bidErrors t bs =
     ++ when (overMaximum (t .maximum) bs) (ascii "6G6", 907)
 
 unfoldable pub placeErrors : Terms → List ℕ → List Error
-placeErrors t m = cond (any (λ (p : Place). not (p .formed)) (placesOf m)) ((ascii "6G6", 901) ∷ []) (bidErrors t (bidsOf m))
+placeErrors t m = cond (any (λ (p : Place). not (p .formed)) (messagePlaces m)) ((ascii "6G6", 901) ∷ []) (bidErrors t (messageBids m))
 
 -- 'The message's errors are collected in this order, each once, as IDC and code'
 unfoldable pub errors : Terms → Reception → List Error
@@ -121,7 +121,7 @@ submission t r =
       sound = isSound t r;
       code = numberIn (fieldsOf (r .message) .sender);
       time = numberIn (fieldsOf (r .message) .time);
-      bids = bidsOf (r .message);
+      bids = messageBids (r .message);
     }
 
 -- 'For each admitted code the book holds the reference time last accepted, or none, and ten bids.'

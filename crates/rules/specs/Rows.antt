@@ -8,7 +8,7 @@ use Rattle.texts.specs.Texts.{ascii}
 use Rattle.rules.specs.Opening.{openingRefused, termsOf}
 use Rattle.rules.specs.Receiving.{errors, Entry}
 use Rattle.rules.specs.Calls.{Closed, Announced, Revoked, Tender, inState, Answer, confirmed, returned, refused, openTender, receivingRefused, receive, closingRefused, close, allottingRefused, allot, revokingRefused, revoke}
-use Rattle.rules.specs.Marked.{announcement, admitted, terms, message, reception, code, codesOf, Row, row, allHold, listOf}
+use Rattle.rules.specs.Marked.{announcement, admitted, terms, message, reception, code, errorCodes, Row, row, allHold, listOf}
 
 -- the announcement and a message with another byte at an index
 abbrev pub announced : ℕ → ℕ → List ℕ
@@ -18,7 +18,7 @@ unfoldable pub application : List ℕ
 application = message 90001 102900 ((120000, 10000) ∷ [])
 
 abbrev pub altered : ℕ → ℕ → List ℕ
-altered at b = codesOf (reception 103000 (set application at b))
+altered at b = errorCodes (reception 103000 (set application at b))
 
 -- the refusal of opening
 abbrev pub opening : List ℕ → List ℕ → List ℕ
@@ -128,9 +128,9 @@ errorRows =
     ∷ row 908 (altered 59 47) (908 ∷ [])
     ∷ row 303 (altered 77 50) (303 ∷ [])
     ∷ row 901 (altered 89 32) (901 ∷ [])
-    ∷ row 902 (codesOf (reception 103000 (message 90001 102900 ((0, 0) ∷ (120000, 10000) ∷ [])))) (902 ∷ [])
-    ∷ row 905 (codesOf (reception 103000 (message 90001 102900 ((120000, 0) ∷ [])))) (905 ∷ [])
-    ∷ row 905 (codesOf (reception 103000 (message 90001 102900 ((0, 9999) ∷ (120500, 25000) ∷ [])))) (904 ∷ 905 ∷ 906 ∷ [])
+    ∷ row 902 (errorCodes (reception 103000 (message 90001 102900 ((0, 0) ∷ (120000, 10000) ∷ [])))) (902 ∷ [])
+    ∷ row 905 (errorCodes (reception 103000 (message 90001 102900 ((120000, 0) ∷ [])))) (905 ∷ [])
+    ∷ row 905 (errorCodes (reception 103000 (message 90001 102900 ((0, 9999) ∷ (120500, 25000) ∷ [])))) (904 ∷ 905 ∷ 906 ∷ [])
     ∷ row 907 (map code (errors (termsOf (announced 164 50) admitted) (reception 103000 (message 90001 102900 ((120000, 10000) ∷ (130000, 20000) ∷ []))))) (907 ∷ [])
     ∷ row 907 (map code (errors (termsOf (announced 164 50) admitted) (reception 103000 (message 90001 102900 ((120000, 10000) ∷ (130000, 10000) ∷ []))))) []
     -- an earlier date is in time, a later one is not

@@ -15,29 +15,29 @@ use Rattle.rules.proofs.ArrivalOrder.{few-codes, rising-codes}
 use Rattle.terms.specs.declared.Terms as declared
 use Rattle.terms.specs.declared.OpenAnswer.{OpenAnswer}
 use Rattle.terms.specs.Viewed as terms
-use Rattle.terms.specs.Viewed.{openRefusal, isOpened, admittedIn, opening}
+use Rattle.terms.specs.Viewed.{openRefusal, isOpened, codesUnlessRefused, openingTerms}
 use Rattle.tender.proofs.Opening.{number, none-holds, terms-open, refused-some}
 use Rattle.log.specs.Lines.{refusedLine}
-use Rattle.log.specs.Steps.{Step, opened, announcement}
+use Rattle.log.specs.Steps.{Step, openedStep, announcementStep}
 use Rattle.steps.specs.declared.Change.the-variants as change
 use Rattle.steps.specs.declared.Taken.{Taken}
-use Rattle.steps.specs.Parts.{Parts, codesOf, viewed, Given, Takes}
+use Rattle.steps.specs.Parts.{Parts, admittedNow, viewed, Given, Takes}
 use Rattle.steps.proofs.Taking.{all-kept, takes-as, takes-by, takes-nothing, unwritten}
 
 module _ (p : Parts) (g : Given p) (s space : List ℕ) (r : Taken) (a : OpenAnswer) (t : declared.Terms)
-    (e : _≡_ {A = Option ℕ × rules.Terms} (openRefusal a, terms.viewed t (admittedIn s (codesOf p))) (opening s (codesOf p))) where
+    (e : _≡_ {A = Option ℕ × rules.Terms} (openRefusal a, terms.viewed t (codesUnlessRefused s (admittedNow p))) (openingTerms s (admittedNow p))) where
   abbrev codes : List ℕ
-  codes = codesOf p
+  codes = admittedNow p
 
   -- the step by the refusal
   stepBy : Option ℕ → Step
-  stepBy l = opened (viewed p) (l, unlessRefused l noTender (record { terms = termsOf s codes; state = Open; book = newBook codes }))
+  stepBy l = openedStep (viewed p) (l, unlessRefused l noTender (record { terms = termsOf s codes; state = Open; book = newBook codes }))
 
-  step-is : (l : Option ℕ) → openingRefused s codes ≡ l → stepBy l ≡ announcement (viewed p) s
-  unfolding announcement openTender stepBy
-  step-is l h = sym (ap (λ (x : Option ℕ). opened (viewed p) (x, unlessRefused x noTender (record { terms = termsOf s codes; state = Open; book = newBook codes }))) h)
+  step-is : (l : Option ℕ) → openingRefused s codes ≡ l → stepBy l ≡ announcementStep (viewed p) s
+  unfolding announcementStep openTender stepBy
+  step-is l h = sym (ap (λ (x : Option ℕ). openedStep (viewed p) (x, unlessRefused x noTender (record { terms = termsOf s codes; state = Open; book = newBook codes }))) h)
 
-  pub announced : isOpened a ≡ true → r .change ≡ change.Opened → r .terms ≡ t → r .length ≡ 0 → Takes (announcement (viewed p) s) p s space r space
+  pub announced : isOpened a ≡ true → r .change ≡ change.Opened → r .terms ≡ t → r .length ≡ 0 → Takes (announcementStep (viewed p) s) p s space r space
   unfolding stepBy
   announced h c q z =
       let none-there = none-holds s codes a t e h in
@@ -46,7 +46,7 @@ module _ (p : Parts) (g : Given p) (s space : List ℕ) (r : Taken) (a : OpenAns
       (λ i. record { ended = false; codes = all-kept p g i; tender = some (record { terms = (sym (terms-open s codes a t e h) ∙ ap (λ (x : declared.Terms). terms.viewed x codes) (sym q)) i; state = Open; book = newBook codes }) })
       (few-codes s codes none-there, rising-codes s codes none-there) (unwritten space (r .length) z))
 
-  pub not-announced : (left : List ℕ) → isOpened a ≡ false → r .change ≡ change.None → Wrote space 0 (refusedLine (orZero (openRefusal a))) left (r .length) → Takes (announcement (viewed p) s) p s space r left
+  pub not-announced : (left : List ℕ) → isOpened a ≡ false → r .change ≡ change.None → Wrote space 0 (refusedLine (orZero (openRefusal a))) left (r .length) → Takes (announcementStep (viewed p) s) p s space r left
   unfolding stepBy
   not-announced left h c w =
       let n = refused-some a h in

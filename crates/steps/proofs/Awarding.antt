@@ -19,7 +19,7 @@ use Rattle.allotment.proofs.Absent.{awards-640}
 use Rattle.tender.specs.declared.Tender.{Tender}
 use Rattle.tender.specs.declared.internal.AllotAnswer.{AllotAnswer}
 use Rattle.tender.specs.Viewed as tender
-use Rattle.tender.specs.Viewed.{isSome, numberOf}
+use Rattle.tender.specs.Viewed.{isSome, refusalNumber}
 use Rattle.tender.specs.Calls.{awardedTo, AllotsBids}
 use Rattle.tender.proofs.Conditions.{none-of}
 use Rattle.log.specs.Lines.{refusedLine, awardLine, placeLines, awardLines}
@@ -69,6 +69,6 @@ module _ (t : rules.Tender) where
       ∙ lines-are none e
 
 -- the awards of an allotment that is not refused
-pub awards-told : {t : Tender} {space left : List ℕ} {r : AllotAnswer} → AllotsBids t space r left → isSome (numberOf (r .refusal)) ≡ false → left ≡ awards (offerOf (tender.viewed t .terms)) (bidsInBook (tender.viewed t .book))
+pub awards-told : {t : Tender} {space left : List ℕ} {r : AllotAnswer} → AllotsBids t space r left → isSome (refusalNumber (r .refusal)) ≡ false → left ≡ awards (offerOf (tender.viewed t .terms)) (bidsInBook (tender.viewed t .book))
 awards-told {t} {space} {left} {r} a h =
-    ap (λ (x : Option ℕ × List ℕ). x .1) (a .awarded ∙ ap (λ (l : Option ℕ). unlessRefused l (none, space) (awardedTo (tender.viewed t))) (none-of (numberOf (r .refusal)) h))
+    ap (λ (x : Option ℕ × List ℕ). x .1) (a .awarded ∙ ap (λ (l : Option ℕ). unlessRefused l (none, space) (awardedTo (tender.viewed t))) (none-of (refusalNumber (r .refusal)) h))

@@ -20,7 +20,7 @@ use Rattle.book.specs.Viewed as book
 use Rattle.tender.specs.declared.internal.Accepted.{Accepted}
 use Rattle.tender.specs.declared.internal.Outcome.{Outcome}
 use Rattle.tender.specs.Viewed as tender
-use Rattle.tender.specs.Viewed.{numberOf, answerIn, isHeld, leftBy}
+use Rattle.tender.specs.Viewed.{refusalNumber, answerIn, isHeld, leftBy}
 use Rattle.tender.specs.Calls.{Left, ComesTo}
 use Rattle.steps.specs.declared.Change.the-variants as change
 use Rattle.steps.specs.declared.Taken.{Taken}
@@ -28,7 +28,7 @@ use Rattle.steps.specs.Parts.{Parts, tenderIn, viewed, Given, holding, T
 use Rattle.steps.proofs.Taking.{takes-as, takes-left, takes-accepted, on-tender}
 
 -- the reception of a field, with the message that follows its clock
-pub reception-is : (s m : List ℕ) (date time : ℕ) → m ≡ drop 14 s → date ≡ dateOf s → time ≡ timeOf s → checks.received m date time (replicate 418 0) ≡ receptionIn s
+pub reception-is : (s m : List ℕ) (date time : ℕ) → m ≡ drop 14 s → date ≡ dateOf s → time ≡ timeOf s → checks.receptionOf m date time (replicate 418 0) ≡ receptionIn s
 unfolding receptionIn
 reception-is s m date time p q h = λ i. record { message = p i; date = q i; time = h i; space = replicate 418 0 }
 
@@ -47,13 +47,13 @@ module _ (t : Tender) (s m : List ℕ) (date time : ℕ) (o : Outcome) (c : Come
   abbrev told : ℕ
   told = length (reply errors (tender.viewed t .terms .identifier) (x .message) (x .time))
 
-  number : numberOf (o .refusal) ≡ receivingRefused (tender.viewed t) x
+  number : refusalNumber (o .refusal) ≡ receivingRefused (tender.viewed t) x
   number = c .number (replicate 418 0) refl ∙ ap (receivingRefused (tender.viewed t)) (reception-is s m date time p q h)
 
-  left : numberOf (o .refusal) ≡ none → Left t x o
+  left : refusalNumber (o .refusal) ≡ none → Left t x o
   left e = subst (λ (y : Reception). Left t y o) (reception-is s m date time p q h) (c .left e (replicate 418 0))
 
-  by-number : (l : Option ℕ) → numberOf (o .refusal) ≡ l
+  by-number : (l : Option ℕ) → refusalNumber (o .refusal) ≡ l
       → (answerUnless l (tender.viewed t) x .0 ≡ answerIn l (listed (o .errors)) told) × (answerUnless l (tender.viewed t) x .1 ≡ leftBy (tender.viewed t) o)
   unfolding answerUnless answerWith
   by-number (some n) e = (refl, rw e refl)
@@ -63,15 +63,15 @@ module _ (t : Tender) (s m : List ℕ) (date time : ℕ) (o : Outcome) (c : Come
         λ i. record { terms = tender.viewed t .terms; state = tender.viewed t .state; book = sym (ap (λ (y : List Error × List Entry). y .1) f) i },
       )
 
-  line-and-left : (answerLine (answerIn (numberOf (o .refusal)) (listed (o .errors)) told) s ≡ received s (tender.viewed t) .1) × (received s (tender.viewed t) .0 ≡ leftBy (tender.viewed t) o)
+  line-and-left : (answerLine (answerIn (refusalNumber (o .refusal)) (listed (o .errors)) told) s ≡ received s (tender.viewed t) .1) × (received s (tender.viewed t) .0 ≡ leftBy (tender.viewed t) o)
   unfolding receive
   line-and-left =
-      let b = by-number (numberOf (o .refusal)) refl in (
+      let b = by-number (refusalNumber (o .refusal)) refl in (
         sym (ap (λ (l : Option ℕ). answerLine (answerUnless l (tender.viewed t) x .0) s) (sym number) ∙ ap (λ (a : rules.Answer). answerLine a s) (b .0)),
         ap (λ (l : Option ℕ). answerUnless l (tender.viewed t) x .1) (sym number) ∙ b .1,
       )
 
-  pub line-told : answerLine (answerIn (numberOf (o .refusal)) (listed (o .errors)) told) s ≡ received s (tender.viewed t) .1
+  pub line-told : answerLine (answerIn (refusalNumber (o .refusal)) (listed (o .errors)) told) s ≡ received s (tender.viewed t) .1
   line-told = line-and-left .0
 
   pub left-told : received s (tender.viewed t) .0 ≡ leftBy (tender.viewed t) o

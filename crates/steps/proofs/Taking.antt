@@ -21,11 +21,11 @@ use Rattle.tender.specs.Viewed.{isSome}
 use Rattle.steps.specs.declared.Change.{Change}
 use Rattle.steps.specs.declared.Change.the-variants as change
 use Rattle.steps.specs.declared.Taken.{Taken}
-use Rattle.steps.specs.Parts.{Parts, codesOf, tenderIn, viewed, Given, kept, withTender, holding, after, Possible, Takes}
+use Rattle.steps.specs.Parts.{Parts, admittedNow, tenderIn, viewed, Given, kept, withTender, holding, after, Possible, Takes}
 
 -- the codes that a journal keeps are at most 65
-pub all-kept : (p : Parts) → Given p → take 65 (codesOf p) ≡ codesOf p
-all-kept p g = take-all 65 (codesOf p) (let f = g .few in simp length-take (omega (arith, f)))
+pub all-kept : (p : Parts) → Given p → take 65 (admittedNow p) ≡ admittedNow p
+all-kept p g = take-all 65 (admittedNow p) (let f = g .few in simp length-take (omega (arith, f)))
 
 -- nothing is written
 pub unwritten : (space : List ℕ) (n : ℕ) → n ≡ 0 → Wrote space 0 [] space n
@@ -33,7 +33,7 @@ unwritten space n e = subst (Wrote space 0 [] space) (sym e) (nothing space 0)
 
 -- the log with a tender or not
 abbrev logWith : Parts → Bool → Log
-logWith p b = record { ended = false; codes = codesOf p; tender = cond b (some (tenderIn p)) none }
+logWith p b = record { ended = false; codes = admittedNow p; tender = cond b (some (tenderIn p)) none }
 
 -- before an accepted A1 a call is skipped; after it the call gives the next tender and the lines
 pub no-tender : (p : Parts) (call : rules.Tender → rules.Tender × List ℕ) → p .opened ≡ false → (viewed p, []) ≡ onTender (viewed p) call
@@ -79,7 +79,7 @@ module _ (p : Parts) (g : Given p) (s space : List ℕ) (r : Taken) where
   -- a call that leaves the tender as it is
   pub takes-left : (t : rules.Tender) (text left : List ℕ) → p .opened ≡ true → r .change ≡ change.None → t ≡ tenderIn p → Wrote space 0 text left (r .length) → Takes (withTender p t, text) p s space r left
   takes-left t text left o e q w =
-      takes-as (λ i. (record { ended = false; codes = codesOf p; tender = (ap (λ (b : Bool). cond b (some (tenderIn p)) none) o ∙ ap some (sym q)) i }, text)) (takes-nothing text left e w)
+      takes-as (λ i. (record { ended = false; codes = admittedNow p; tender = (ap (λ (b : Bool). cond b (some (tenderIn p)) none) o ∙ ap some (sym q)) i }, text)) (takes-nothing text left e w)
 
   -- a message that is accepted
   pub takes-accepted : (t : rules.Tender) (text left : List ℕ) → p .opened ≡ true → r .change ≡ change.Accepted → t ≡ holding (tenderIn p) (r .accepted) → r .accepted .at < 64 → Wrote space 0 text left (r .length)

@@ -39,14 +39,14 @@ abbrev pub parts : Bool → List ℕ → ℕ → State → Terms → Book → Pa
 parts opened codes n state terms book = record { opened = opened; codes = codes; n = n; state = state; terms = terms; book = book }
 
 -- the codes of the last A0, and the tender
-abbrev pub codesOf : Parts → List ℕ
-codesOf p = take (p .n) (p .codes)
+abbrev pub admittedNow : Parts → List ℕ
+admittedNow p = take (p .n) (p .codes)
 
 abbrev pub tenderIn : Parts → rules.Tender
 tenderIn p = tender.viewed (tender.tenderOf (p .state) (p .terms) (p .book))
 
 abbrev pub viewed : Parts → Log
-viewed p = record { ended = false; codes = codesOf p; tender = cond (p .opened) (some (tenderIn p)) none }
+viewed p = record { ended = false; codes = admittedNow p; tender = cond (p .opened) (some (tenderIn p)) none }
 
 -- what holds of the parts of every journal
 pub record Given (p : Parts) : Type 0 where
@@ -70,7 +70,7 @@ abbrev pub withCodes : Parts → List ℕ → Log
 withCodes p codes = record { ended = false; codes = codes; tender = viewed p .tender }
 
 abbrev pub withTender : Parts → rules.Tender → Log
-withTender p t = record { ended = false; codes = codesOf p; tender = some t }
+withTender p t = record { ended = false; codes = admittedNow p; tender = some t }
 
 -- a tender newly opened on terms for the codes, and one with an accepted message
 abbrev pub openedOn : Terms → List ℕ → rules.Tender
@@ -84,7 +84,7 @@ abbrev pub after : Parts → List ℕ → Terms → Accepted → Change → Log
 after p s t a change.None = viewed p
 after p s t a change.Ended = ending (viewed p) .0
 after p s t a (change.Admitted k) = withCodes p (codesFrom k s)
-after p s t a change.Opened = withTender p (openedOn t (codesOf p))
+after p s t a change.Opened = withTender p (openedOn t (admittedNow p))
 after p s t a (change.InState x) = withTender p (rules.inState (tender.stateOf x) (tenderIn p))
 after p s t a change.Accepted = withTender p (holding (tenderIn p) a)
 
@@ -93,7 +93,7 @@ abbrev pub Possible : Parts → List ℕ → Accepted → Change → Type 0
 Possible p s a change.None = Unit
 Possible p s a change.Ended = Unit
 Possible p s a (change.Admitted k) = (k ≤ 65) × (5 * k ≤ length s) × (allDigits s ≡ true)
-Possible p s a change.Opened = (length (codesOf p) ≤ 64) × (rising (codesOf p) ≡ true)
+Possible p s a change.Opened = (length (admittedNow p) ≤ 64) × (rising (admittedNow p) ≡ true)
 Possible p s a (change.InState x) = p .opened ≡ true
 Possible p s a change.Accepted = (p .opened ≡ true) × (a .at < 64)
 

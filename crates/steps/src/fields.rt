@@ -35,9 +35,9 @@ ghost use Rattle.terms.specs.declared.Terms.{Terms};
 ghost use Rattle.book.specs.declared.Book.{Book};
 ghost use Rattle.book.specs.Viewed.{bookOf, Lends, Full, upTo64};
 ghost use Rattle.tender.specs.declared.State.{State};
-ghost use Rattle.tender.specs.Viewed.{numberOf, tenderOf};
+ghost use Rattle.tender.specs.Viewed.{refusalNumber, tenderOf};
 ghost use Rattle.log.specs.Steps as steps;
-ghost use Rattle.log.specs.Steps.{ending, admission, announcement, reception, closing, revocation, allotting};
+ghost use Rattle.log.specs.Steps.{ending, admissionStep, announcementStep, receptionStep, closingStep, revocationStep, allottingStep};
 ghost use Rattle.steps.specs.declared.Change.the-variants as change;
 ghost use Rattle.steps.specs.Parts.{Parts, parts, viewed, Given, Takes, PutsAllotment};
 
@@ -61,8 +61,8 @@ pub fn ended() -> Taken
 }
 
 // A0: the codes admitted to the next tender.
-pub fn admission(s: &[u8]) -> Taken
-    ensures { λ r. ⌜ ((p : Parts) (space : List ℕ) → Given p → Takes (admission (viewed p) (now (s .entry))) p (now (s .entry)) space r space) ⌝ }
+pub fn admissionStep(s: &[u8]) -> Taken
+    ensures { λ r. ⌜ ((p : Parts) (space : List ℕ) → Given p → Takes (admissionStep (viewed p) (now (s .entry))) p (now (s .entry)) space r space) ⌝ }
 {
     if (s.len() % 5 == 0) & all_digits(s) {
         let n = up_to_65(s.len() / 5);
@@ -72,10 +72,10 @@ pub fn admission(s: &[u8]) -> Taken
 }
 
 // A1: an announcement.
-pub fn announcement(codes: [u32; 65], n: usize, s: &[u8], space: &mut [u8]) -> Taken
+pub fn announcementStep(codes: [u32; 65], n: usize, s: &[u8], space: &mut [u8]) -> Taken
     requires { ⌜ n ≤ 65 ⌝ }
     requires { ⌜ 11 ≤ length (now space) ⌝ }
-    ensures { λ r. ⌜ ((opened : Bool) (state : State) (terms : Terms) (book : Book) → Given (parts opened codes n state terms book) → Takes (announcement (viewed (parts opened codes n state terms book)) (now (s .entry))) (parts opened codes n state terms book) (now (s .entry)) (now (space .entry)) r (now (space .exit))) ⌝ }
+    ensures { λ r. ⌜ ((opened : Bool) (state : State) (terms : Terms) (book : Book) → Given (parts opened codes n state terms book) → Takes (announcementStep (viewed (parts opened codes n state terms book)) (now (s .entry))) (parts opened codes n state terms book) (now (s .entry)) (now (space .entry)) r (now (space .exit))) ⌝ }
 {
     let opening = terms::open(s, &codes[0..n]);
     let answer = opening.answer;
@@ -93,7 +93,7 @@ pub fn announcement(codes: [u32; 65], n: usize, s: &[u8], space: &mut [u8]) -> T
 }
 
 // A2: a reception.
-pub fn reception<'a>(
+pub fn receptionStep<'a>(
     opened: bool,
     state: State,
     terms: Terms,
@@ -107,7 +107,7 @@ pub fn reception<'a>(
     requires { ⌜ Full (now admitted) (now held) (now has) ⌝ }
     requires { ⌜ rising (take (upTo64 k) (now admitted)) ≡ true ⌝ }
     requires { ⌜ 74 ≤ length (now space) ⌝ }
-    ensures { λ r. ⌜ ((codes : List ℕ) (n : ℕ) (book : Book) → Lends book k (now (admitted .entry)) (now (held .entry)) (now (has .entry)) → Given (parts opened codes n state terms book) → Takes (reception (viewed (parts opened codes n state terms book)) (now (s .entry))) (parts opened codes n state terms book) (now (s .entry)) (now (space .entry)) r (now (space .exit))) ⌝ }
+    ensures { λ r. ⌜ ((codes : List ℕ) (n : ℕ) (book : Book) → Lends book k (now (admitted .entry)) (now (held .entry)) (now (has .entry)) → Given (parts opened codes n state terms book) → Takes (receptionStep (viewed (parts opened codes n state terms book)) (now (s .entry))) (parts opened codes n state terms book) (now (s .entry)) (now (space .entry)) r (now (space .exit))) ⌝ }
 {
     if s.len() < 14 {
         return with_change(0, Change::Ended);
@@ -146,7 +146,7 @@ pub fn reception<'a>(
 // A call that is refused has a line; one that is not puts the tender into a state.
 fn put_into(state: State, refusal: Refusal, space: &mut [u8]) -> Taken
     requires { ⌜ 11 ≤ length (now space) ⌝ }
-    ensures { λ r. ⌜ Wrote (now (space .entry)) 0 (steps.refusal (numberOf refusal)) (now (space .exit)) (r .length) × (r .change ≡ unlessRefused (numberOf refusal) change.None (change.InState state)) ⌝ }
+    ensures { λ r. ⌜ Wrote (now (space .entry)) 0 (steps.refusal (refusalNumber refusal)) (now (space .exit)) (r .length) × (r .change ≡ unlessRefused (refusalNumber refusal) change.None (change.InState state)) ⌝ }
 {
     if is_refused(refusal) {
         let length = put_refused(space, tender::number_of(refusal));
@@ -156,9 +156,9 @@ fn put_into(state: State, refusal: Refusal, space: &mut [u8]) -> Taken
 }
 
 // A3: closing.
-pub fn closing(opened: bool, state: State, terms: Terms, s: &[u8], space: &mut [u8]) -> Taken
+pub fn closingStep(opened: bool, state: State, terms: Terms, s: &[u8], space: &mut [u8]) -> Taken
     requires { ⌜ 11 ≤ length (now space) ⌝ }
-    ensures { λ r. ⌜ ((codes : List ℕ) (n : ℕ) (book : Book) → Given (parts opened codes n state terms book) → Takes (closing (viewed (parts opened codes n state terms book)) (now (s .entry))) (parts opened codes n state terms book) (now (s .entry)) (now (space .entry)) r (now (space .exit))) ⌝ }
+    ensures { λ r. ⌜ ((codes : List ℕ) (n : ℕ) (book : Book) → Given (parts opened codes n state terms book) → Takes (closingStep (viewed (parts opened codes n state terms book)) (now (s .entry))) (parts opened codes n state terms book) (now (s .entry)) (now (space .entry)) r (now (space .exit))) ⌝ }
 {
     if s.len() != 14 {
         return with_change(0, Change::Ended);
@@ -171,9 +171,9 @@ pub fn closing(opened: bool, state: State, terms: Terms, s: &[u8], space: &mut [
 }
 
 // A4: revocation.
-pub fn revocation(opened: bool, state: State, s: &[u8], space: &mut [u8]) -> Taken
+pub fn revocationStep(opened: bool, state: State, s: &[u8], space: &mut [u8]) -> Taken
     requires { ⌜ 11 ≤ length (now space) ⌝ }
-    ensures { λ r. ⌜ ((codes : List ℕ) (n : ℕ) (terms : Terms) (book : Book) → Given (parts opened codes n state terms book) → Takes (revocation (viewed (parts opened codes n state terms book)) (now (s .entry))) (parts opened codes n state terms book) (now (s .entry)) (now (space .entry)) r (now (space .exit))) ⌝ }
+    ensures { λ r. ⌜ ((codes : List ℕ) (n : ℕ) (terms : Terms) (book : Book) → Given (parts opened codes n state terms book) → Takes (revocationStep (viewed (parts opened codes n state terms book)) (now (s .entry))) (parts opened codes n state terms book) (now (s .entry)) (now (space .entry)) r (now (space .exit))) ⌝ }
 {
     if s.len() != 0 {
         return with_change(0, Change::Ended);
@@ -219,7 +219,7 @@ fn put_allotment<'a>(
 }
 
 // A5: allotment.
-pub fn allotting<'a>(
+pub fn allottingStep<'a>(
     opened: bool,
     state: State,
     terms: Terms,
@@ -232,7 +232,7 @@ pub fn allotting<'a>(
 ) -> Taken
     requires { ⌜ (length (now admitted) ≡ 64) × (length (now rates) ≡ 640) × (length (now amounts) ≡ 640) ⌝ }
     requires { ⌜ 23040 ≤ length (now space) ⌝ }
-    ensures { λ r. ⌜ ((codes : List ℕ) (n : ℕ) (held : List ℕ) (has : List Bool) → (let p = parts opened codes n state terms (bookOf k (now (admitted .entry)) held has (now (rates .entry)) (now (amounts .entry))) in Given p → Takes (allotting (viewed p) (now (s .entry))) p (now (s .entry)) (now (space .entry)) r (now (space .exit)))) ⌝ }
+    ensures { λ r. ⌜ ((codes : List ℕ) (n : ℕ) (held : List ℕ) (has : List Bool) → (let p = parts opened codes n state terms (bookOf k (now (admitted .entry)) held has (now (rates .entry)) (now (amounts .entry))) in Given p → Takes (allottingStep (viewed p) (now (s .entry))) p (now (s .entry)) (now (space .entry)) r (now (space .exit)))) ⌝ }
 {
     if s.len() != 0 {
         return with_change(0, Change::Ended);

@@ -31,7 +31,7 @@ ghost use Rattle.layout.specs.Fields.{readable};
 ghost use Rattle.envelope.specs.Application.{layout6G1};
 ghost use Rattle.book.specs.Viewed.{bookOf, Full};
 ghost use Rattle.errors.specs.Listed.{listed};
-ghost use Rattle.tender.specs.Viewed.{numberOf, answerIn};
+ghost use Rattle.tender.specs.Viewed.{refusalNumber, answerIn};
 ghost use Rattle.log.specs.Steps.{dateOf, timeOf, answerLine, step};
 ghost use Rattle.steps.specs.Parts.{codeIn, codesFrom, parts, viewed, Given, Takes};
 
@@ -91,10 +91,10 @@ pub fn time_of(s: &[u8]) -> u64
 
 // Writes the line of a reception.
 pub fn put_answer(space: &mut [u8], s: &[u8], m: &[u8], r: Refusal, e: Errors) -> usize
-    requires { ⌜ (numberOf r ≡ none → readable layout6G1 (now m) ≡ true) ⌝ }
+    requires { ⌜ (refusalNumber r ≡ none → readable layout6G1 (now m) ≡ true) ⌝ }
     requires { ⌜ (e .n ≤ 16) × (14 ≤ length (now s)) × (74 ≤ length (now space)) ⌝ }
     requires { ⌜ now m ≡ drop 14 (now s) ⌝ }
-    ensures { λ n. ⌜ ((k : ℕ) → Wrote (now (space .entry)) 0 (answerLine (answerIn (numberOf r) (listed e) k) (now (s .entry))) (now (space .exit)) n) ⌝ }
+    ensures { λ n. ⌜ ((k : ℕ) → Wrote (now (space .entry)) 0 (answerLine (answerIn (refusalNumber r) (listed e) k) (now (s .entry))) (now (space .exit)) n) ⌝ }
 {
     if is_refused(r) {
         return put_refused(space, tender::number_of(r));

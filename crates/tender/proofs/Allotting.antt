@@ -17,31 +17,31 @@ use Rattle.rules.specs.Calls.{isRevoked, isOpen, isAnnounced, bidsExceed, allot
 use Rattle.offer.specs.Viewed.{mostBids}
 use Rattle.marginal.specs.Ranks.{rateIn}
 use Rattle.awards.proofs.Loops.{length-awards}
-use Rattle.allotment.specs.Allotted.{allotted}
+use Rattle.allotment.specs.Allotted.{allottedTo}
 use Rattle.allotment.proofs.Absent.{awards-640, marginal-640}
 use Rattle.tender.specs.declared.Refusal.{Refusal}
 use Rattle.tender.specs.declared.Tender.{Tender}
 use Rattle.tender.specs.declared.Changed.{Changed}
 use Rattle.tender.specs.declared.internal.AllotAnswer.{AllotAnswer}
-use Rattle.tender.specs.Viewed.{viewed, Given, numberOf, isSome}
+use Rattle.tender.specs.Viewed.{viewed, Given, refusalNumber, isSome}
 use Rattle.tender.specs.Calls.{notClosed, awardedTo, Changes, AllotsBids, Allots}
 use Rattle.tender.proofs.Conditions.{refused-first, refused-later, kept-old}
 
 module _ (t : Tender) (space : List ℕ) (r : AllotAnswer) where
   -- refused whatever the bids
-  pub allots-not : numberOf (r .refusal) ≡ notClosed (viewed t) → isSome (numberOf (r .refusal)) ≡ true → rateIn (r .marginal) ≡ none → AllotsBids t space r space
+  pub allots-not : refusalNumber (r .refusal) ≡ notClosed (viewed t) → isSome (refusalNumber (r .refusal)) ≡ true → rateIn (r .marginal) ≡ none → AllotsBids t space r space
   unfolding allottingRefused
   allots-not e h m =
       let x = viewed t in
       record {
-        number = sym (refused-first ((8, isRevoked x) ∷ (14, isOpen x) ∷ (15, isAnnounced x) ∷ []) ((16, bidsExceed x) ∷ []) (numberOf (r .refusal)) e h);
-        awarded = (λ i. (m i, space)) ∙ sym (kept-old (numberOf (r .refusal)) (none, space) (awardedTo x) h);
+        number = sym (refused-first ((8, isRevoked x) ∷ (14, isOpen x) ∷ (15, isAnnounced x) ∷ []) ((16, bidsExceed x) ∷ []) (refusalNumber (r .refusal)) e h);
+        awarded = (λ i. (m i, space)) ∙ sym (kept-old (refusalNumber (r .refusal)) (none, space) (awardedTo x) h);
       }
 
   -- refused by condition 16, or not
   pub allots-bids : (first : Option ℕ) (bs : List Bid) (exceeds : Bool) (after : List ℕ) → bs ≡ bidsInBook (viewed t .book) → first ≡ notClosed (viewed t) → isSome first ≡ false
-      → numberOf (r .refusal) ≡ firstHolding ((16, exceeds) ∷ []) → _≡_ {A = Bool × Option ℕ × List ℕ} (exceeds, rateIn (r .marginal), after) (allotted (offerOf (viewed t .terms)) bs space) → AllotsBids t space r after
-  unfolding allottingRefused firstHolding bidsExceed allotted
+      → refusalNumber (r .refusal) ≡ firstHolding ((16, exceeds) ∷ []) → _≡_ {A = Bool × Option ℕ × List ℕ} (exceeds, rateIn (r .marginal), after) (allottedTo (offerOf (viewed t .terms)) bs space) → AllotsBids t space r after
+  unfolding allottingRefused firstHolding bidsExceed allottedTo
   allots-bids first bs exceeds after all e h n a = go (ltb mostBids (total bs)) refl
     where
       given : (b : Bool) → ltb mostBids (total bs) ≡ b
@@ -53,7 +53,7 @@ module _ (t : Tender) (space : List ℕ) (r : AllotAnswer) where
           refused-later ((8, isRevoked (viewed t)) ∷ (14, isOpen (viewed t)) ∷ (15, isAnnounced (viewed t)) ∷ []) ((16, bidsExceed (viewed t)) ∷ []) first e h
           ∙ ap (λ (y : Bool). cond {A = Option ℕ} y (some 16) none) (ap (λ (l : List Bid). ltb mostBids (total l)) (sym all) ∙ q)
 
-      told : (b : Bool) → ltb mostBids (total bs) ≡ b → exceeds ≡ b → numberOf (r .refusal) ≡ cond b (some 16) none
+      told : (b : Bool) → ltb mostBids (total bs) ≡ b → exceeds ≡ b → refusalNumber (r .refusal) ≡ cond b (some 16) none
       told b q p = n ∙ ap (λ (y : Bool). cond {A = Option ℕ} y (some 16) none) p
 
       go : (b : Bool) → ltb mostBids (total bs) ≡ b → AllotsBids t space r after
@@ -93,7 +93,7 @@ zeros-after (suc m) (suc n) h =
 -- the awards of all places: those of the bids in the book, then zeros
 module _ (t : Tender) (g : Given t) (a : AllotAnswer) (c : Changed) (n : ℕ) (part zeros : List ℕ) (z : zeros ≡ replicate 640 0) (few : n ≤ 640) (long : length part ≡ n)
     (awarded : AllotsBids t (take (n - 0) zeros) a part)
-    (changed : Changes t (numberOf (a .refusal), unlessRefused (numberOf (a .refusal)) (viewed t) (rules.inState rules.Announced (viewed t))) c) where
+    (changed : Changes t (refusalNumber (a .refusal), unlessRefused (refusalNumber (a .refusal)) (viewed t) (rules.inState rules.Announced (viewed t))) c) where
   abbrev bs : List Bid
   bs = bidsInBook (viewed t .book)
 
@@ -106,7 +106,7 @@ module _ (t : Tender) (g : Given t) (a : AllotAnswer) (c : Changed) (n : ℕ) (p
   all-zeros : take (n - 0) zeros ++ drop (n - 0) zeros ≡ replicate 640 0
   all-zeros = take-append-drop (n - 0) zeros ∙ z
 
-  given-by : (l : Option ℕ) → numberOf (a .refusal) ≡ l
+  given-by : (l : Option ℕ) → refusalNumber (a .refusal) ≡ l
       → _≡_ {A = rules.Allotted} (record { awards = part ++ drop (n - 0) zeros; marginal = rateIn (a .marginal) }) (unlessRefused l notAllotted (allotment (viewed t .terms) bs))
   unfolding allotment
   given-by none e =
@@ -130,8 +130,8 @@ module _ (t : Tender) (g : Given t) (a : AllotAnswer) (c : Changed) (n : ℕ) (p
       let number = awarded .number in
       record {
         equal =
-            (λ i. (numberOf (a .refusal), ap (λ (x : Option ℕ × rules.Tender). x .1) (changed .equal) i, given-by (numberOf (a .refusal)) refl i))
+            (λ i. (refusalNumber (a .refusal), ap (λ (x : Option ℕ × rules.Tender). x .1) (changed .equal) i, given-by (refusalNumber (a .refusal)) refl i))
             ∙ ap (λ (l : Option ℕ). (l, unlessRefused l (viewed t) (rules.inState rules.Announced (viewed t)), unlessRefused l notAllotted (allotment (viewed t .terms) bs))) number;
-        unchanged = subst (λ (r : Refusal). c .tender ≡ unlessRefused (numberOf r) t (c .tender)) same (changed .unchanged);
+        unchanged = subst (λ (r : Refusal). c .tender ≡ unlessRefused (refusalNumber r) t (c .tender)) same (changed .unchanged);
         given = changed .given;
       }

@@ -30,31 +30,31 @@ use Rattle.tender.specs.declared.Refusal.{Refusal}
 use Rattle.tender.specs.declared.Refusal.the-variants as refusal
 use Rattle.tender.specs.declared.Tender.{Tender}
 use Rattle.tender.specs.declared.Received.{Received}
-use Rattle.tender.specs.Viewed.{viewed, Given, numberOf, isSome, answerIn, answerOf, errorsIn, lengthIn, unlessConfirmed}
-use Rattle.tender.specs.Calls.{answered, Receives}
+use Rattle.tender.specs.Viewed.{viewed, Given, refusalNumber, isSome, answerIn, answerOf, errorsIn, replyLength, unlessConfirmed}
+use Rattle.tender.specs.Calls.{answeredBy, Receives}
 
 -- refused: no errors, no reply, the tender and the space as they were
 module _ (t : Tender) (g : Given t) (x : Reception) (r : Received)
     (none-listed : listed (r .errors) ≡ []) (none-there : r .errors .n ≡ 0) (zero-long : r .length ≡ 0) (same : r .tender ≡ t) where
-  as-refused : (n : ℕ) → numberOf (r .refusal) ≡ some n → receivingRefused (viewed t) x ≡ some n → Receives t (receive (viewed t) x) r (x .space)
+  as-refused : (n : ℕ) → refusalNumber (r .refusal) ≡ some n → receivingRefused (viewed t) x ≡ some n → Receives t (receive (viewed t) x) r (x .space)
   unfolding receive answerUnless
   as-refused n e h =
       let answer : answerOf r ≡ rules.refused n = ap (λ (l : Option ℕ). answerIn l (listed (r .errors)) (r .length)) e in
       record {
         equal = (λ i. (answer i, viewed (same i), x .space)) ∙ sym (ap (λ (l : Option ℕ). answerUnless l (viewed t) x) h);
         errors-are = none-listed ∙ sym (ap errorsIn answer);
-        length-is = zero-long ∙ sym (ap lengthIn answer);
+        length-is = zero-long ∙ sym (ap replyLength answer);
         few = omega (arith, none-there);
         unchanged = same ∙ sym (ap (λ (a : rules.Answer). unlessConfirmed a t (r .tender)) answer);
         given = subst Given (sym same) g;
       }
 
-  pub receives-refused : (f : Refusal) → r .refusal ≡ f → receivingRefused (viewed t) x ≡ numberOf f → isSome (numberOf f) ≡ true → Receives t (receive (viewed t) x) r (x .space)
-  receives-refused f e h s = go (numberOf f) refl s
+  pub receives-refused : (f : Refusal) → r .refusal ≡ f → receivingRefused (viewed t) x ≡ refusalNumber f → isSome (refusalNumber f) ≡ true → Receives t (receive (viewed t) x) r (x .space)
+  receives-refused f e h s = go (refusalNumber f) refl s
     where
-      go : (l : Option ℕ) → numberOf f ≡ l → isSome l ≡ true → Receives t (receive (viewed t) x) r (x .space)
+      go : (l : Option ℕ) → refusalNumber f ≡ l → isSome l ≡ true → Receives t (receive (viewed t) x) r (x .space)
       go none p q = absurd (false≢true q)
-      go (some n) p q = as-refused n (ap numberOf e ∙ p) (h ∙ p)
+      go (some n) p q = as-refused n (ap refusalNumber e ∙ p) (h ∙ p)
 
 -- a message held or not, the codes stay
 hold-code : (s : Submission) (e : Entry) → hold s e .code ≡ e .code
@@ -80,7 +80,7 @@ unfolding answerTo
 errors-told [] n = refl
 errors-told (e ∷ es) n = refl
 
-length-told : (es : List Error) (n : ℕ) → n ≡ lengthIn (answerTo es n)
+length-told : (es : List Error) (n : ℕ) → n ≡ replyLength (answerTo es n)
 unfolding answerTo
 length-told [] n = refl
 length-told (e ∷ es) n = refl
@@ -131,7 +131,7 @@ module _ (t : Tender) (g : Given t) (x : Reception) (e : Errors) (n : ℕ) (next
   tender-is : viewed tender ≡ record { terms = viewed t .terms; state = viewed t .state; book = bookAfter errors (viewed t .terms) (viewed t .book) x }
   tender-is = λ i. record { terms = terms.viewed (t .terms) (codes i); state = viewed t .state; book = entries i }
 
-  pub receives-answered : Receives t (answered (viewed t) x) (record { refusal = refusal.None; errors = e; length = n; tender = tender }) after
+  pub receives-answered : Receives t (answeredBy (viewed t) x) (record { refusal = refusal.None; errors = e; length = n; tender = tender }) after
   unfolding answerWith
   receives-answered =
       record {

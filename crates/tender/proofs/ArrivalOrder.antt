@@ -14,7 +14,7 @@ use Rattle.tender.specs.declared.Tender.{Tender}
 use Rattle.tender.specs.declared.Opened.{Opened}
 use Rattle.tender.specs.declared.Changed.{Changed}
 use Rattle.tender.specs.declared.Allotted.{Allotted}
-use Rattle.tender.specs.Viewed.{viewed, numberOf, allottedIn}
+use Rattle.tender.specs.Viewed.{viewed, refusalNumber, allottedIn}
 use Rattle.tender.specs.ArrivalOrder.{ReceivesAll, no-more, and-next, Run, ArrivalOrderOfCalls}
 
 received-all : {t last : Tender} {rs : List Reception} → ReceivesAll t rs last → viewed last ≡ receiveAll (viewed t) rs
@@ -29,17 +29,17 @@ module _ (m codes : List ℕ) (rs : List Reception) (date time : ℕ) (opened : 
       received-all (run .receives)
       ∙ ap (λ (p : Option ℕ × rules.Tender). receiveAll (p .1) rs) (run .opens .equal)
 
-  closing-is : (numberOf (closed .refusal), viewed (closed .tender)) ≡ rules.close (afterReceptions m codes rs) date time
+  closing-is : (refusalNumber (closed .refusal), viewed (closed .tender)) ≡ rules.close (afterReceptions m codes rs) date time
   closing-is = run .closes .equal ∙ ap (λ (t : rules.Tender). rules.close t date time) last-is
 
-  allotting-is : (numberOf (allotted .refusal), viewed (allotted .tender), allottedIn allotted) ≡ rules.allot (afterClosing m codes rs date time)
+  allotting-is : (refusalNumber (allotted .refusal), viewed (allotted .tender), allottedIn allotted) ≡ rules.allot (afterClosing m codes rs date time)
   allotting-is = run .allots .equal ∙ ap (λ (p : Option ℕ × rules.Tender). rules.allot (p .1)) closing-is
 
   -- what the run gives, as the rules have it
-  closing-number : numberOf (closed .refusal) ≡ rules.close (afterReceptions m codes rs) date time .0
+  closing-number : refusalNumber (closed .refusal) ≡ rules.close (afterReceptions m codes rs) date time .0
   closing-number = ap (λ (p : Option ℕ × rules.Tender). p .0) closing-is
 
-  allotting-number : numberOf (allotted .refusal) ≡ rules.allot (afterClosing m codes rs date time) .0
+  allotting-number : refusalNumber (allotted .refusal) ≡ rules.allot (afterClosing m codes rs date time) .0
   allotting-number = ap (λ (p : Option ℕ × rules.Tender × rules.Allotted). p .0) allotting-is
 
   awards-are : allottedIn allotted ≡ rules.allot (afterClosing m codes rs date time) .2

@@ -15,7 +15,7 @@ use Rattle.terms.specs.declared.Terms as declared
 use Rattle.terms.specs.declared.OpenAnswer.{OpenAnswer}
 use Rattle.terms.specs.declared.OpenAnswer.the-variants.{Opened, NotAnnouncement, OtherOrigin, Malformed, UnknownType, Impossible, Disordered, BadCodes}
 use Rattle.terms.specs.Viewed as terms
-use Rattle.terms.specs.Viewed.{openRefusal, isOpened, admittedIn, opening}
+use Rattle.terms.specs.Viewed.{openRefusal, isOpened, codesUnlessRefused, openingTerms}
 use Rattle.book.specs.declared.Book.{Book}
 use Rattle.book.specs.Viewed as book
 use Rattle.book.proofs.Empty.{new-whole}
@@ -44,13 +44,13 @@ refused-some Disordered h = (6, refl)
 refused-some BadCodes h = (7, refl)
 
 module _ (m codes : List ℕ) (a : OpenAnswer) (t : declared.Terms)
-    (e : _≡_ {A = Option ℕ × rules.Terms} (openRefusal a, terms.viewed t (admittedIn m codes)) (opening m codes)) where
+    (e : _≡_ {A = Option ℕ × rules.Terms} (openRefusal a, terms.viewed t (codesUnlessRefused m codes)) (openingTerms m codes)) where
   pub number : openRefusal a ≡ openingRefused m codes
-  unfolding opening
+  unfolding openingTerms
   number = ap (λ (p : Option ℕ × rules.Terms). p .0) e
 
   terms-are : terms.viewed t (unlessRefused (openingRefused m codes) [] codes) ≡ unlessRefused (openingRefused m codes) noTerms (termsOf m codes)
-  unfolding opening admittedIn
+  unfolding openingTerms codesUnlessRefused
   terms-are = ap (λ (p : Option ℕ × rules.Terms). p .1) e
 
   -- no condition holds, and the terms are those of the announcement

@@ -9,20 +9,20 @@ use lib.ListN.{length}
 use Rattle.layout.specs.Fields.{readable}
 use Rattle.envelope.specs.Application.{layout6G1}
 use Rattle.rules.specs.Calls.{receivingRefused}
-use Rattle.checks.specs.Columns.{received}
+use Rattle.checks.specs.Columns.{receptionOf}
 use Rattle.tender.specs.declared.Refusal.{Refusal}
 use Rattle.tender.specs.declared.Tender.{Tender}
 use Rattle.tender.specs.declared.internal.Outcome.{Outcome}
-use Rattle.tender.specs.Viewed.{viewed, numberOf, isSome}
+use Rattle.tender.specs.Viewed.{viewed, refusalNumber, isSome}
 use Rattle.tender.specs.Calls.{Left, ComesTo}
 
 module _ (t : Tender) (m : List ℕ) (date time room : ℕ) (o : Outcome) where
-  pub comes-refused : (f : Refusal) → o .refusal ≡ f → o .errors .n ≡ 0 → o .accepted .at ≡ 0 → isSome (numberOf f) ≡ true
-      → ((space : List ℕ) → length space ≡ room → receivingRefused (viewed t) (received m date time space) ≡ numberOf f) → ComesTo t m date time room o
+  pub comes-refused : (f : Refusal) → o .refusal ≡ f → o .errors .n ≡ 0 → o .accepted .at ≡ 0 → isSome (refusalNumber f) ≡ true
+      → ((space : List ℕ) → length space ≡ room → receivingRefused (viewed t) (receptionOf m date time space) ≡ refusalNumber f) → ComesTo t m date time room o
   comes-refused f e none-there first refused h =
-      let not-none : numberOf (o .refusal) ≡ none → ⊥ = λ q. false≢true (sym (ap isSome q) ∙ ap (λ (r : Refusal). isSome (numberOf r)) e ∙ refused) in
+      let not-none : refusalNumber (o .refusal) ≡ none → ⊥ = λ q. false≢true (sym (ap isSome q) ∙ ap (λ (r : Refusal). isSome (refusalNumber r)) e ∙ refused) in
       record {
-        number = λ space l. ap numberOf e ∙ sym (h space l);
+        number = λ space l. ap refusalNumber e ∙ sym (h space l);
         roomy = λ q. absurd (not-none q);
         readable-told = λ q. absurd (not-none q);
         left = λ q. absurd (not-none q);
@@ -30,7 +30,7 @@ module _ (t : Tender) (m : List ℕ) (date time room : ℕ) (o : Outcome) where
         within = omega (arith, first);
       }
 
-  pub comes-answered : numberOf (o .refusal) ≡ none → 418 ≤ room → readable layout6G1 m ≡ true → ((space : List ℕ) → Left t (received m date time space) o)
-      → o .errors .n ≤ 16 → o .accepted .at < 64 → ((space : List ℕ) → length space ≡ room → receivingRefused (viewed t) (received m date time space) ≡ none) → ComesTo t m date time room o
+  pub comes-answered : refusalNumber (o .refusal) ≡ none → 418 ≤ room → readable layout6G1 m ≡ true → ((space : List ℕ) → Left t (receptionOf m date time space) o)
+      → o .errors .n ≤ 16 → o .accepted .at < 64 → ((space : List ℕ) → length space ≡ room → receivingRefused (viewed t) (receptionOf m date time space) ≡ none) → ComesTo t m date time room o
   comes-answered e enough is-readable left few within h =
       record { number = λ space l. e ∙ sym (h space l); roomy = λ q. enough; readable-told = λ q. is-readable; left = λ q. left; few = few; within = within }

@@ -14,7 +14,7 @@ use Rattle.tender.specs.declared.Opened.{Opened}
 use Rattle.tender.specs.declared.Received.{Received}
 use Rattle.tender.specs.declared.Changed.{Changed}
 use Rattle.tender.specs.declared.Allotted.{Allotted}
-use Rattle.tender.specs.Viewed.{viewed, numberOf, allottedIn}
+use Rattle.tender.specs.Viewed.{viewed, refusalNumber, allottedIn}
 use Rattle.tender.specs.Calls.{Opens, Receives, Changes, Allots}
 
 -- 'Each reception takes the tender the last one returned, after a refusal too; nothing else changes it between'
@@ -48,10 +48,10 @@ ArrivalOrderOfCalls =
     → PastCutOff (termsOf m codes) date time
     → PastCutOff (termsOf m codes) date₂ time₂
     -- neither closing nor allotting is refused
-    → (numberOf (closed .refusal) ≡ none)
-    × (numberOf (allotted .refusal) ≡ none)
-    × (numberOf (closed₂ .refusal) ≡ none)
-    × (numberOf (allotted₂ .refusal) ≡ none)
+    → (refusalNumber (closed .refusal) ≡ none)
+    × (refusalNumber (allotted .refusal) ≡ none)
+    × (refusalNumber (closed₂ .refusal) ≡ none)
+    × (refusalNumber (allotted₂ .refusal) ≡ none)
     -- awards and marginal rate are document 01's for the final bids, and the same after the rearrangement
     × (allottedIn allotted ≡ rules.allotment (termsOf m codes) (finalBook (termsOf m codes) rs))
     × (allottedIn allotted₂ ≡ allottedIn allotted)

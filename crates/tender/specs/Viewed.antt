@@ -31,28 +31,28 @@ stateOf state.Closed = rules.Closed
 stateOf state.Announced = rules.Announced
 stateOf state.Revoked = rules.Revoked
 
-abbrev pub codesOf : Tender → List ℕ
-codesOf t = book.codesIn (book.viewed (t .book))
+abbrev pub admittedCodes : Tender → List ℕ
+admittedCodes t = book.codesIn (book.viewed (t .book))
 
 abbrev pub viewed : Tender → rules.Tender
-viewed t = record { terms = terms.viewed (t .terms) (codesOf t); state = stateOf (t .state); book = book.viewed (t .book) }
+viewed t = record { terms = terms.viewed (t .terms) (admittedCodes t); state = stateOf (t .state); book = book.viewed (t .book) }
 
 -- 'Every tender handed to a call was given by opening or an earlier call, and what holds of all those may be relied on': its codes rise
 pub record Given (t : Tender) : Type 0 where
-  pub rises : rising (codesOf t) ≡ true
+  pub rises : rising (admittedCodes t) ≡ true
 
 -- document 01's number for each refusal
-abbrev pub numberOf : Refusal → Option ℕ
-numberOf refusal.None = none
-numberOf refusal.Revoked = some 8
-numberOf refusal.Over = some 9
-numberOf refusal.ClockInvalid = some 10
-numberOf refusal.SpaceShort = some 11
-numberOf refusal.Unreadable = some 12
-numberOf refusal.BeforeCutOff = some 13
-numberOf refusal.Open = some 14
-numberOf refusal.Announced = some 15
-numberOf refusal.BidsExceed = some 16
+abbrev pub refusalNumber : Refusal → Option ℕ
+refusalNumber refusal.None = none
+refusalNumber refusal.Revoked = some 8
+refusalNumber refusal.Over = some 9
+refusalNumber refusal.ClockInvalid = some 10
+refusalNumber refusal.SpaceShort = some 11
+refusalNumber refusal.Unreadable = some 12
+refusalNumber refusal.BeforeCutOff = some 13
+refusalNumber refusal.Open = some 14
+refusalNumber refusal.Announced = some 15
+refusalNumber refusal.BidsExceed = some 16
 
 abbrev pub isSome : Option ℕ → Bool
 isSome none = false
@@ -70,7 +70,7 @@ answerIn none es n = rules.answerTo es n
 answerIn (some k) es n = rules.refused k
 
 abbrev pub answerOf : Received → rules.Answer
-answerOf r = answerIn (numberOf (r .refusal)) (listed (r .errors)) (r .length)
+answerOf r = answerIn (refusalNumber (r .refusal)) (listed (r .errors)) (r .length)
 
 -- the errors and the length that stand beside an answer: none where the message is not returned, zero where the reception is refused
 abbrev pub errorsIn : rules.Answer → List Error
@@ -78,10 +78,10 @@ errorsIn (rules.confirmed n) = []
 errorsIn (rules.returned es n) = es
 errorsIn (rules.refused k) = []
 
-abbrev pub lengthIn : rules.Answer → ℕ
-lengthIn (rules.confirmed n) = n
-lengthIn (rules.returned es n) = n
-lengthIn (rules.refused k) = 0
+abbrev pub replyLength : rules.Answer → ℕ
+replyLength (rules.confirmed n) = n
+replyLength (rules.returned es n) = n
+replyLength (rules.refused k) = 0
 
 -- 'An accepted message ..; one with errors gets RE01 and changes nothing in the tender'
 abbrev pub unlessConfirmed : {A : Type 0} → rules.Answer → A → A → A
@@ -91,7 +91,7 @@ unlessConfirmed (rules.refused k) old new = old
 
 -- a reception that is neither refused nor returned is held
 abbrev pub isHeld : Outcome → Bool
-isHeld o = not (isSome (numberOf (o .refusal))) && eqb (o .errors .n) 0
+isHeld o = not (isSome (refusalNumber (o .refusal))) && eqb (o .errors .n) 0
 
 -- the book and the tender after a reception: at most the entry of its code changes
 abbrev pub entriesAfter : List Entry → Outcome → List Entry

@@ -36,9 +36,9 @@ ghost use Rattle.terms.specs.declared.Terms.{Terms};
 ghost use Rattle.book.specs.declared.Book.{Book};
 ghost use Rattle.book.specs.Viewed as entries;
 ghost use Rattle.book.specs.Viewed.{upTo64, Lends, Full};
-ghost use Rattle.checks.specs.Columns.{received};
+ghost use Rattle.checks.specs.Columns.{receptionOf};
 ghost use Rattle.tender.specs.declared.State.{State};
-ghost use Rattle.tender.specs.Viewed.{viewed, numberOf, tenderOf, isHeld, entriesAfter};
+ghost use Rattle.tender.specs.Viewed.{viewed, refusalNumber, tenderOf, isHeld, entriesAfter};
 ghost use Rattle.tender.specs.declared.Tender.{Tender};
 ghost use Rattle.tender.specs.Calls.{notClosed, Left, ComesTo, AllotsBids};
 
@@ -106,7 +106,7 @@ fn judged<'a>(
     requires { ⌜ readable layout6G1 (now m) ≡ true ⌝ }
     requires { ⌜ f ≡ fieldsOf (now m) ⌝ }
     requires { ⌜ (validDate date && validTime time) ≡ true ⌝ }
-    ensures { λ r. ⌜ (numberOf (r .refusal) ≡ none) × (r .errors .n ≤ 16) × (r .accepted .at < 64) × ((b : Book) → Lends b n (now (codes .entry)) (now (held .entry)) (now (has .entry)) → (s : State) (space : List ℕ) → Left (tenderOf s terms b) (received (now (m .entry)) date time space) r) ⌝ }
+    ensures { λ r. ⌜ (refusalNumber (r .refusal) ≡ none) × (r .errors .n ≤ 16) × (r .accepted .at < 64) × ((b : Book) → Lends b n (now (codes .entry)) (now (held .entry)) (now (has .entry)) → (s : State) (space : List ℕ) → Left (tenderOf s terms b) (receptionOf (now (m .entry)) date time space) r) ⌝ }
 {
     let j = judge(m, f, terms, n, codes, held, has, date, time);
     let errors = j.errors;
@@ -163,7 +163,7 @@ pub fn outcome_of<'a>(
 
 // Why closing is refused, or that it is not.
 pub fn close_refusal(state: State, terms: Terms, date: u64, time: u64) -> Refusal
-    ensures { λ r. ⌜ ((book : Book) → numberOf r ≡ closingRefused (viewed (tenderOf state terms book)) date time) ⌝ }
+    ensures { λ r. ⌜ ((book : Book) → refusalNumber r ≡ closingRefused (viewed (tenderOf state terms book)) date time) ⌝ }
 {
     let first = not_open(state, date, time);
     if is_refused(first) {
@@ -177,7 +177,7 @@ pub fn close_refusal(state: State, terms: Terms, date: u64, time: u64) -> Refusa
 
 // Why revoking is refused, or that it is not.
 pub fn revoke_refusal(state: State) -> Refusal
-    ensures { λ r. ⌜ ((terms : Terms) (book : Book) → numberOf r ≡ revokingRefused (viewed (tenderOf state terms book))) ⌝ }
+    ensures { λ r. ⌜ ((terms : Terms) (book : Book) → refusalNumber r ≡ revokingRefused (viewed (tenderOf state terms book))) ⌝ }
 {
     match state {
         State::Open => Refusal::None,
@@ -189,7 +189,7 @@ pub fn revoke_refusal(state: State) -> Refusal
 
 // Why a tender in a state is not allotted, whatever its bids: conditions 8, 14 and 15.
 fn not_closed(state: State) -> Refusal
-    ensures { λ r. ⌜ ((t : Tender) → t .state ≡ state → numberOf r ≡ notClosed (viewed t)) ⌝ }
+    ensures { λ r. ⌜ ((t : Tender) → t .state ≡ state → refusalNumber r ≡ notClosed (viewed t)) ⌝ }
 {
     match state {
         State::Open => Refusal::Open,
@@ -201,7 +201,7 @@ fn not_closed(state: State) -> Refusal
 
 // Condition 16.
 fn bids_refusal(exceeds: bool) -> Refusal
-    ensures { λ r. ⌜ numberOf r ≡ firstHolding ((16, exceeds) ∷ []) ⌝ }
+    ensures { λ r. ⌜ refusalNumber r ≡ firstHolding ((16, exceeds) ∷ []) ⌝ }
 {
     if exceeds {
         return Refusal::BidsExceed;

@@ -25,10 +25,10 @@ ghost use mathlib.Core.List.{[], _∷_};
 ghost use Rattle.envelope.specs.Refusals.{firstHolding, unlessRefused, orZero};
 ghost use Rattle.rules.specs.Calls.{clockInvalid, inState, receive, close, revoke};
 ghost use Rattle.errors.specs.Listed.{listed};
-ghost use Rattle.checks.specs.Columns.{received};
+ghost use Rattle.checks.specs.Columns.{receptionOf};
 ghost use Rattle.tender.specs.declared.Tender.{Tender};
 ghost use Rattle.tender.specs.declared.State.the-variants as state;
-ghost use Rattle.tender.specs.Viewed.{stateOf, viewed, Given, numberOf, isSome, inStateOf};
+ghost use Rattle.tender.specs.Viewed.{stateOf, viewed, Given, refusalNumber, isSome, inStateOf};
 ghost use Rattle.tender.specs.Calls.{notOpen, Opens, Receives, Changes, Allots};
 
 pub enum State {
@@ -119,7 +119,7 @@ pub fn open(m: &[u8], codes: &[u32]) -> Opened
 
 // Whether a refusal is one.
 pub fn is_refused(r: Refusal) -> bool
-    ensures { λ b. ⌜ b ≡ isSome (numberOf r) ⌝ }
+    ensures { λ b. ⌜ b ≡ isSome (refusalNumber r) ⌝ }
 {
     match r {
         Refusal::None => false,
@@ -137,7 +137,7 @@ pub fn is_refused(r: Refusal) -> bool
 
 // Document 01's number of a refusal, and zero where there is none.
 pub fn number_of(r: Refusal) -> u64
-    ensures { λ n. ⌜ n ≡ orZero (numberOf r) ⌝ }
+    ensures { λ n. ⌜ n ≡ orZero (refusalNumber r) ⌝ }
 {
     match r {
         Refusal::None => 0,
@@ -155,7 +155,7 @@ pub fn number_of(r: Refusal) -> u64
 
 // Condition 10.
 fn clock_refusal(date: u64, time: u64) -> Refusal
-    ensures { λ r. ⌜ numberOf r ≡ firstHolding ((10, clockInvalid date time) ∷ []) ⌝ }
+    ensures { λ r. ⌜ refusalNumber r ≡ firstHolding ((10, clockInvalid date time) ∷ []) ⌝ }
 {
     if valid_date(date) & valid_time(time) {
         return Refusal::None;
@@ -165,7 +165,7 @@ fn clock_refusal(date: u64, time: u64) -> Refusal
 
 // Conditions 8, 9 and 10.
 fn not_open(state: State, date: u64, time: u64) -> Refusal
-    ensures { λ r. ⌜ ((t : Tender) → t .state ≡ state → numberOf r ≡ notOpen (viewed t) date time) ⌝ }
+    ensures { λ r. ⌜ ((t : Tender) → t .state ≡ state → refusalNumber r ≡ notOpen (viewed t) date time) ⌝ }
 {
     match state {
         State::Open => clock_refusal(date, time),
@@ -199,7 +199,7 @@ fn unreceived(t: Tender, refusal: Refusal) -> Received
 // The tender in another state, unless the call is refused.
 fn in_state_unless(t: Tender, refusal: Refusal, state: State) -> Changed
     requires { ⌜ Given t ⌝ }
-    ensures { λ r. ⌜ (r .refusal ≡ refusal) × Changes t (numberOf refusal, unlessRefused (numberOf refusal) (viewed t) (inState (stateOf state) (viewed t))) r ⌝ }
+    ensures { λ r. ⌜ (r .refusal ≡ refusal) × Changes t (refusalNumber refusal, unlessRefused (refusalNumber refusal) (viewed t) (inState (stateOf state) (viewed t))) r ⌝ }
 {
     if is_refused(refusal) {
         return Changed { refusal, tender: t };
@@ -235,7 +235,7 @@ impl Tender {
     // Receives a message at a date and time and writes the reply to it at the start of the space.
     pub fn receive(self, m: &[u8], date: u64, time: u64, space: &mut [u8]) -> Received
         requires { ⌜ Given self ⌝ }
-        ensures { λ r. ⌜ Receives self (receive (viewed self) (received (now (m .entry)) date time (now (space .entry)))) r (now (space .exit)) ⌝ }
+        ensures { λ r. ⌜ Receives self (receive (viewed self) (receptionOf (now (m .entry)) date time (now (space .entry)))) r (now (space .exit)) ⌝ }
     {
         let state = self.state;
         let terms = self.terms;

@@ -56,11 +56,11 @@ viewed t codes =
     }
 
 -- the refusal of opening and the terms, which are none where it is refused; a refused opening admits no code
-unfoldable pub opening : List ℕ → List ℕ → Option ℕ × rules.Terms
-opening m codes = (openingRefused m codes, unlessRefused (openingRefused m codes) noTerms (termsOf m codes))
+unfoldable pub openingTerms : List ℕ → List ℕ → Option ℕ × rules.Terms
+openingTerms m codes = (openingRefused m codes, unlessRefused (openingRefused m codes) noTerms (termsOf m codes))
 
-unfoldable pub admittedIn : List ℕ → List ℕ → List ℕ
-admittedIn m codes = unlessRefused (openingRefused m codes) [] codes
+unfoldable pub codesUnlessRefused : List ℕ → List ℕ → List ℕ
+codesUnlessRefused m codes = unlessRefused (openingRefused m codes) [] codes
 
 -- the parts of condition 3
 unfoldable pub referencesFormed : References → Bool

@@ -8,7 +8,7 @@ use lib.Dec.{leb, lit<}
 use lib.Bits.{bitAnd, and-block, and-mask}
 use borrow.Author.Tests.{leb-true}
 use Rattle.laws.proofs.Tests.{and-left, and-right}
-use Rattle.words.specs.Words.{bytesOf, allSmall, decimal}
+use Rattle.words.specs.Words.{lowBytes, allSmall, decimal}
 
 -- the mask's lowest field keeps the low half of the word's lowest field, and the rest of the mask meets the rest of the word
 keep8 : (r o e m : ℕ) → e < 256 → o < 256 → bitAnd (r * 65536 + (o * 256 + e)) (m * 65536 + 255) ≡ bitAnd r m * 65536 + e
@@ -65,7 +65,7 @@ pub record Eight (t : ℕ) : Type 0 where
   pub h5 : d5 ≤ 9
   pub h6 : d6 ≤ 9
   pub h7 : d7 ≤ 9
-  pub bytes : bytesOf 8 t ≡ d0 ∷ d1 ∷ d2 ∷ d3 ∷ d4 ∷ d5 ∷ d6 ∷ d7 ∷ []
+  pub bytes : lowBytes 8 t ≡ d0 ∷ d1 ∷ d2 ∷ d3 ∷ d4 ∷ d5 ∷ d6 ∷ d7 ∷ []
   pub is : t ≡ ((((((d7 * 256 + d6) * 256 + d5) * 256 + d4) * 256 + d3) * 256 + d2) * 256 + d1) * 256 + d0
 
 abbrev P : {t : ℕ} → Eight t → ℕ
@@ -129,16 +129,16 @@ eight-is t w =
     ∙ omega arith
 
 -- a word whose bytes are digits
-first : (k t : ℕ) → allSmall (bytesOf (suc k) t) ≡ true → t % 256 ≤ 9
-unfolding allSmall bytesOf
-first k t h = leb-true (t % 256) 9 (and-left (leb (t % 256) 9) (allSmall (bytesOf k (t / 256))) h)
+first : (k t : ℕ) → allSmall (lowBytes (suc k) t) ≡ true → t % 256 ≤ 9
+unfolding allSmall lowBytes
+first k t h = leb-true (t % 256) 9 (and-left (leb (t % 256) 9) (allSmall (lowBytes k (t / 256))) h)
 
-next : (k t : ℕ) → allSmall (bytesOf (suc k) t) ≡ true → allSmall (bytesOf k (t / 256)) ≡ true
-unfolding allSmall bytesOf
-next k t h = and-right (leb (t % 256) 9) (allSmall (bytesOf k (t / 256))) h
+next : (k t : ℕ) → allSmall (lowBytes (suc k) t) ≡ true → allSmall (lowBytes k (t / 256)) ≡ true
+unfolding allSmall lowBytes
+next k t h = and-right (leb (t % 256) 9) (allSmall (lowBytes k (t / 256))) h
 
-pub eight-of : (t : ℕ) → t < 18446744073709551616 → allSmall (bytesOf 8 t) ≡ true → Eight t
-unfolding bytesOf
+pub eight-of : (t : ℕ) → t < 18446744073709551616 → allSmall (lowBytes 8 t) ≡ true → Eight t
+unfolding lowBytes
 eight-of t b n0 =
     let t1 = t / 256 in
     let n1 = next 7 t n0 in
@@ -188,7 +188,7 @@ eight-max t w =
     let s = w .is in
     omega arith
 
-pub eight-below : (t : ℕ) → t < 18446744073709551616 → allSmall (bytesOf 8 t) ≡ true → decimal 0 (bytesOf 8 t) < 100000000
+pub eight-below : (t : ℕ) → t < 18446744073709551616 → allSmall (lowBytes 8 t) ≡ true → decimal 0 (lowBytes 8 t) < 100000000
 unfolding decimal
 eight-below t b h =
     let w = eight-of t b h in

@@ -8,15 +8,15 @@ use lib.Dec.{leb}
 use lib.ListN.{length}
 use borrow.Author.Tests.{leb-true}
 use Rattle.laws.proofs.Tests.{and-left, and-right}
-use Rattle.words.specs.Words.{bytesOf, allSmall}
+use Rattle.words.specs.Words.{lowBytes, allSmall}
 
 -- the first byte is the lowest
 unfoldable pub wordOf : List ℕ → ℕ
 wordOf [] = 0
 wordOf (b ∷ s) = b + wordOf s * 256
 
-pub bytes-back : (s : List ℕ) → allSmall s ≡ true → bytesOf (length s) (wordOf s) ≡ s
-unfolding wordOf bytesOf allSmall
+pub bytes-back : (s : List ℕ) → allSmall s ≡ true → lowBytes (length s) (wordOf s) ≡ s
+unfolding wordOf lowBytes allSmall
 bytes-back [] h = refl
 bytes-back (d ∷ s) h =
     let r = leb-true d 9 (and-left (leb d 9) (allSmall s) h) in

@@ -7,7 +7,7 @@ use native.Mathlib.Omega.{arith}
 use lib.Dec.{lit<}
 use lib.Bits.{bitAnd, and-block, and-mask}
 use borrow.Author.Tests.{le-leb}
-use Rattle.words.specs.Words.{bytesOf, allSmall, decimal}
+use Rattle.words.specs.Words.{lowBytes, allSmall, decimal}
 use Rattle.words.proofs.Bytes.{wordOf, bytes-back}
 
 -- the three steps of `parted`
@@ -161,13 +161,13 @@ module _ (n : ℕ) (h : n < 100000000) where
   parted-small =
       rw (le-leb (A / 10) 9 (omega arith), le-leb (A % 10) 9 (omega arith), le-leb (B / 10) 9 (omega arith), le-leb (B % 10) 9 (omega arith), le-leb (C / 10) 9 (omega arith), le-leb (C % 10) 9 (omega arith), le-leb (D / 10) 9 (omega arith), le-leb (D % 10) 9 (omega arith))
 
-  parted-bytes : bytesOf 8 (digitsIn (pairsIn (foursIn n))) ≡ eightDigits
-  parted-bytes = ap (bytesOf 8) parted-word ∙ bytes-back eightDigits parted-small
+  parted-bytes : lowBytes 8 (digitsIn (pairsIn (foursIn n))) ≡ eightDigits
+  parted-bytes = ap (lowBytes 8) parted-word ∙ bytes-back eightDigits parted-small
 
-  pub parted-digits : allSmall (bytesOf 8 (digitsIn (pairsIn (foursIn n)))) ≡ true
+  pub parted-digits : allSmall (lowBytes 8 (digitsIn (pairsIn (foursIn n)))) ≡ true
   parted-digits = ap allSmall parted-bytes ∙ parted-small
 
-  pub parted-number : decimal 0 (bytesOf 8 (digitsIn (pairsIn (foursIn n)))) ≡ n
+  pub parted-number : decimal 0 (lowBytes 8 (digitsIn (pairsIn (foursIn n)))) ≡ n
   parted-number =
       let e : ((A * 100 + B) * 100 + C) * 100 + D ≡ n = omega arith in
       ap (decimal 0) parted-bytes ∙ number-is A B C D (omega arith) (omega arith) (omega arith) (omega arith) ∙ e

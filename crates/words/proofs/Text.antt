@@ -14,23 +14,23 @@ use Rattle.digits.specs.declared.Digits.the-variants.{Number}
 use Rattle.digits.specs.Decimal.{allDigits, numberFrom, digits}
 use Rattle.digits.proofs.Reading.{number-is}
 use Rattle.digits.proofs.Writing.{number-written, digits-rest, digits-split, zero-digit}
-use Rattle.words.specs.Words.{bytesOf, allSmall, decimal}
+use Rattle.words.specs.Words.{lowBytes, allSmall, decimal}
 use Rattle.words.proofs.Bytes.{wordOf}
 
 -- the loop over the bytes: its start, one more byte, and the end
-pub all-bytes : (t : ℕ) (b : List ℕ) → take 0 b ++ bytesOf (length b - 0) t ≡ bytesOf (length b) t
+pub all-bytes : (t : ℕ) (b : List ℕ) → take 0 b ++ lowBytes (length b - 0) t ≡ lowBytes (length b) t
 all-bytes t b =
     let e : length b - 0 ≡ length b = omega arith in
-    ap (λ (k : ℕ). bytesOf k t) e
+    ap (λ (k : ℕ). lowBytes k t) e
 
-pub store-byte : (i t : ℕ) (b : List ℕ) → i < length b → take (i + 1) (set b i (t % 256)) ++ bytesOf (length (set b i (t % 256)) - (i + 1)) (t / 256) ≡ take i b ++ bytesOf (length b - i) t
-unfolding bytesOf
+pub store-byte : (i t : ℕ) (b : List ℕ) → i < length b → take (i + 1) (set b i (t % 256)) ++ lowBytes (length (set b i (t % 256)) - (i + 1)) (t / 256) ≡ take i b ++ lowBytes (length b - i) t
+unfolding lowBytes
 store-byte i t b h =
     let e : length b - i ≡ suc (length b - suc i) = omega arith in
-    rw (add-one, length-set, take-suc-set b i (t % 256) h, e) (append-assoc (take i b) (t % 256 ∷ []) (bytesOf (length b - suc i) (t / 256)))
+    rw (add-one, length-set, take-suc-set b i (t % 256) h, e) (append-assoc (take i b) (t % 256 ∷ []) (lowBytes (length b - suc i) (t / 256)))
 
-pub no-bytes : (i t : ℕ) (b : List ℕ) → length b ≤ i → b ≡ take i b ++ bytesOf (length b - i) t
-unfolding bytesOf
+pub no-bytes : (i t : ℕ) (b : List ℕ) → length b ≤ i → b ≡ take i b ++ lowBytes (length b - i) t
+unfolding lowBytes
 no-bytes i t b h =
     let z : length b - i ≡ 0 = omega arith in
     rw (z, take-all i b h) (sym (append-nil b))
@@ -39,8 +39,8 @@ no-bytes i t b h =
 abbrev up : ℕ → ℕ
 up d = d + 48
 
-length-bytes : (k t : ℕ) → length (bytesOf k t) ≡ k
-unfolding bytesOf
+length-bytes : (k t : ℕ) → length (lowBytes k t) ≡ k
+unfolding lowBytes
 length-bytes zero t = refl
 length-bytes (suc k) t = ap suc (length-bytes k (t / 256))
 
@@ -59,19 +59,19 @@ number-up n (d ∷ s) =
     ap (λ (x : ℕ). numberFrom x (map up s)) e ∙ number-up (n * 10 + d) s
 
 -- a word of numbers 0 to 9 and one of zeros are a word of digits
-bytes-up : (k t : ℕ) → allSmall (bytesOf k t) ≡ true → bytesOf k (t + wordOf (replicate k 48)) ≡ map up (bytesOf k t)
-unfolding bytesOf wordOf allSmall
+bytes-up : (k t : ℕ) → allSmall (lowBytes k t) ≡ true → lowBytes k (t + wordOf (replicate k 48)) ≡ map up (lowBytes k t)
+unfolding lowBytes wordOf allSmall
 bytes-up zero t h = refl
 bytes-up (suc k) t h =
-    let r = leb-true (t % 256) 9 (and-left (leb (t % 256) 9) (allSmall (bytesOf k (t / 256))) h) in
+    let r = leb-true (t % 256) 9 (and-left (leb (t % 256) 9) (allSmall (lowBytes k (t / 256))) h) in
     let z = wordOf (replicate k 48) in
     let x : (t + (48 + z * 256)) % 256 ≡ t % 256 + 48 = omega arith in
     let y : (t + (48 + z * 256)) / 256 ≡ t / 256 + z = omega arith in
-    rw (x, y) (ap (λ (l : List ℕ). (t % 256 + 48) ∷ l) (bytes-up k (t / 256) (and-right (leb (t % 256) 9) (allSmall (bytesOf k (t / 256))) h)))
+    rw (x, y) (ap (λ (l : List ℕ). (t % 256 + 48) ∷ l) (bytes-up k (t / 256) (and-right (leb (t % 256) 9) (allSmall (lowBytes k (t / 256))) h)))
 
 -- a slash is a zero less one
-slash-first : (t : ℕ) (s : List ℕ) → bytesOf 8 (t + 1) ≡ 48 ∷ s → bytesOf 8 t ≡ 47 ∷ s
-unfolding bytesOf
+slash-first : (t : ℕ) (s : List ℕ) → lowBytes 8 (t + 1) ≡ 48 ∷ s → lowBytes 8 t ≡ 47 ∷ s
+unfolding lowBytes
 slash-first t s e =
     let z : (t + 1) % 256 ≡ 48 = ap (λ (l : List ℕ). getD l 0 0) e in
     let x : t % 256 ≡ 47 = omega arith in
@@ -79,24 +79,24 @@ slash-first t s e =
     rw (x, y) (ap (λ (l : List ℕ). 47 ∷ drop 1 l) e)
 
 -- the text of a word that holds a number's eight digits
-module _ (t n : ℕ) (h : allSmall (bytesOf 8 t) ≡ true) (e : decimal 0 (bytesOf 8 t) ≡ n) where
-  word-text : bytesOf 8 (t + 3472328296227680304) ≡ digits 8 n
+module _ (t n : ℕ) (h : allSmall (lowBytes 8 t) ≡ true) (e : decimal 0 (lowBytes 8 t) ≡ n) where
+  word-text : lowBytes 8 (t + 3472328296227680304) ≡ digits 8 n
   unfolding wordOf
   word-text =
-      let s = map up (bytesOf 8 t) in
-      bytes-up 8 t h ∙ sym (number-written 8 n s (length-map (bytesOf 8 t) up ∙ length-bytes 8 t) (number-is s (digits-up (bytesOf 8 t) h) ∙ ap Number (number-up 0 (bytesOf 8 t) ∙ e)))
+      let s = map up (lowBytes 8 t) in
+      bytes-up 8 t h ∙ sym (number-written 8 n s (length-map (lowBytes 8 t) up ∙ length-bytes 8 t) (number-is s (digits-up (lowBytes 8 t) h) ∙ ap Number (number-up 0 (lowBytes 8 t) ∙ e)))
 
-  slash-text : n < 10000000 → bytesOf 8 (t + 3472328296227680303) ≡ 47 ∷ digits 7 n
+  slash-text : n < 10000000 → lowBytes 8 (t + 3472328296227680303) ≡ 47 ∷ digits 7 n
   slash-text l =
       let c : t + 3472328296227680303 + 1 ≡ t + 3472328296227680304 = omega arith in
-      slash-first (t + 3472328296227680303) (digits 7 n) (ap (bytesOf 8) c ∙ word-text ∙ zero-digit 7 n l)
+      slash-first (t + 3472328296227680303) (digits 7 n) (ap (lowBytes 8) c ∙ word-text ∙ zero-digit 7 n l)
 
 -- the same of the rest of any number
-module _ (t n : ℕ) (h : allSmall (bytesOf 8 t) ≡ true) where
-  pub eight-text : decimal 0 (bytesOf 8 t) ≡ n % 100000000 → bytesOf 8 (t + 3472328296227680304) ≡ digits 8 n
+module _ (t n : ℕ) (h : allSmall (lowBytes 8 t) ≡ true) where
+  pub eight-text : decimal 0 (lowBytes 8 t) ≡ n % 100000000 → lowBytes 8 (t + 3472328296227680304) ≡ digits 8 n
   eight-text e = word-text t (n % 100000000) h e ∙ digits-rest 8 n
 
-  pub seven-text : decimal 0 (bytesOf 8 t) ≡ n % 10000000 → bytesOf 8 (t + 3472328296227680303) ≡ 47 ∷ digits 7 n
+  pub seven-text : decimal 0 (lowBytes 8 t) ≡ n % 10000000 → lowBytes 8 (t + 3472328296227680303) ≡ 47 ∷ digits 7 n
   seven-text e = slash-text t (n % 10000000) h e (omega arith) ∙ ap (λ (l : List ℕ). 47 ∷ l) (digits-rest 7 n)
 
 -- digits of a width, and the last eight of them

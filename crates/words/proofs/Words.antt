@@ -14,11 +14,11 @@ use borrow.Author.Tests.{eq-eqb, eqb-true, ltb-true, ltb-false}
 use Rattle.laws.proofs.Tests.{and-left, and-right, same-test}
 use Rattle.digits.specs.Decimal.{isDigit, allDigits, numberFrom}
 use Rattle.digits.proofs.Reading.{first-digit, rest-digits}
-use Rattle.words.specs.Words.{bytesOf, allSmall, decimal, Lowered, AfterSlash}
+use Rattle.words.specs.Words.{lowBytes, allSmall, decimal, Lowered, AfterSlash}
 
 -- four bytes, and eight in two halves
-pub four-bytes : (a b c d : ℕ) → a < 256 → b < 256 → c < 256 → d < 256 → bytesOf 4 (a + b * 256 + (c + d * 256) * 65536) ≡ a ∷ b ∷ c ∷ d ∷ []
-unfolding bytesOf
+pub four-bytes : (a b c d : ℕ) → a < 256 → b < 256 → c < 256 → d < 256 → lowBytes 4 (a + b * 256 + (c + d * 256) * 65536) ≡ a ∷ b ∷ c ∷ d ∷ []
+unfolding lowBytes
 four-bytes a b c d ha hb hc hd =
     let x = a + b * 256 + (c + d * 256) * 65536 in
     let p0 : x % 256 ≡ a = omega arith in
@@ -38,8 +38,8 @@ four-are (a ∷ b ∷ c ∷ []) h = absurd (let z : ⊥ = omega arith in z)
 four-are (a ∷ b ∷ c ∷ d ∷ []) h = refl
 four-are (a ∷ b ∷ c ∷ d ∷ e ∷ s) h = absurd (let z : ⊥ = omega arith in z)
 
-pub halves : (a b : ℕ) → a < 4294967296 → bytesOf 8 (a + b * 4294967296) ≡ bytesOf 4 a ++ bytesOf 4 b
-unfolding bytesOf
+pub halves : (a b : ℕ) → a < 4294967296 → lowBytes 8 (a + b * 4294967296) ≡ lowBytes 4 a ++ lowBytes 4 b
+unfolding lowBytes
 halves a b h =
     let p0 : (a + b * 4294967296) % 256 ≡ a % 256 = omega arith in
     let q0 : (a + b * 4294967296) / 256 ≡ a / 256 + b * 16777216 = omega arith in
@@ -116,8 +116,8 @@ zero-both x y =
     (λ e. let p = eqb-true y 0 (and-left (eqb y 0) (eqb x 0) e) in let q = eqb-true x 0 (and-right (eqb y 0) (eqb x 0) e) in eq-eqb (x * 256 + y) 0 (omega arith))
 
 -- bytes tested at once
-pub tested : (k t : ℕ) → eqb (bitAnd (bitOr t (bitAnd t (each k 15) + each k 6)) (each k 240)) 0 ≡ allSmall (bytesOf k t)
-unfolding each allSmall bytesOf
+pub tested : (k t : ℕ) → eqb (bitAnd (bitOr t (bitAnd t (each k 15) + each k 6)) (each k 240)) 0 ≡ allSmall (lowBytes k t)
+unfolding each allSmall lowBytes
 tested zero t = rw (and-zero-r (bitOr t (bitAnd t 0 + 0)))
 tested (suc k) t =
     let q = t / 256 in
@@ -139,32 +139,32 @@ tested (suc k) t =
 abbrev low : ℕ → ℕ
 low b = bitXor b 48
 
-xor-bytes : (k w y c : ℕ) → c < 256 → bytesOf (suc k) (bitXor w (y * 256 + c)) ≡ bitXor (w % 256) c ∷ bytesOf k (bitXor (w / 256) y)
-unfolding bytesOf
+xor-bytes : (k w y c : ℕ) → c < 256 → lowBytes (suc k) (bitXor w (y * 256 + c)) ≡ bitXor (w % 256) c ∷ lowBytes k (bitXor (w / 256) y)
+unfolding lowBytes
 xor-bytes k w y c h =
     let p : (y * 256 + c) % 256 ≡ c = omega arith in
     let q : (y * 256 + c) / 256 ≡ y = omega arith in
-    ap₂ (λ (a : ℕ) (b : ℕ). a ∷ bytesOf k b) (xor-mod w (y * 256 + c) 8 ∙ ap (bitXor (w % 256)) p) (xor-shr w (y * 256 + c) 8 ∙ ap (bitXor (w / 256)) q)
+    ap₂ (λ (a : ℕ) (b : ℕ). a ∷ lowBytes k b) (xor-mod w (y * 256 + c) 8 ∙ ap (bitXor (w % 256)) p) (xor-shr w (y * 256 + c) 8 ∙ ap (bitXor (w / 256)) q)
 
-low-bytes : (k w : ℕ) → bytesOf k (bitXor w (each k 48)) ≡ map low (bytesOf k w)
-unfolding each bytesOf
+low-bytes : (k w : ℕ) → lowBytes k (bitXor w (each k 48)) ≡ map low (lowBytes k w)
+unfolding each lowBytes
 low-bytes zero w = refl
 low-bytes (suc k) w = xor-bytes k w (each k 48) 48 (lit< tt) ∙ ap (λ (l : List ℕ). low (w % 256) ∷ l) (low-bytes k (w / 256))
 
-low-small : (k w : ℕ) → allSmall (map low (bytesOf k w)) ≡ allDigits (bytesOf k w)
-unfolding allSmall allDigits bytesOf
+low-small : (k w : ℕ) → allSmall (map low (lowBytes k w)) ≡ allDigits (lowBytes k w)
+unfolding allSmall allDigits lowBytes
 low-small zero w = refl
 low-small (suc k) w = ap₂ _&&_ (byte-digit (w % 256) (omega arith)) (low-small k (w / 256))
 
-low-number : (k w n : ℕ) → allDigits (bytesOf k w) ≡ true → decimal n (map low (bytesOf k w)) ≡ numberFrom n (bytesOf k w)
-unfolding decimal numberFrom bytesOf
+low-number : (k w n : ℕ) → allDigits (lowBytes k w) ≡ true → decimal n (map low (lowBytes k w)) ≡ numberFrom n (lowBytes k w)
+unfolding decimal numberFrom lowBytes
 low-number zero w n h = refl
 low-number (suc k) w n h =
     let b = w % 256 in
-    let e = byte-number b (omega arith) (first-digit b (bytesOf k (w / 256)) h) in
-    ap (λ (d : ℕ). decimal (n * 10 + d) (map low (bytesOf k (w / 256)))) e ∙ low-number k (w / 256) (n * 10 + (b - 48)) (rest-digits b (bytesOf k (w / 256)) h)
+    let e = byte-number b (omega arith) (first-digit b (lowBytes k (w / 256)) h) in
+    ap (λ (d : ℕ). decimal (n * 10 + d) (map low (lowBytes k (w / 256)))) e ∙ low-number k (w / 256) (n * 10 + (b - 48)) (rest-digits b (lowBytes k (w / 256)) h)
 
-pub lowered-is : (s : List ℕ) (w : ℕ) → bytesOf 8 w ≡ s → Lowered s (bitXor w 3472328296227680304)
+pub lowered-is : (s : List ℕ) (w : ℕ) → lowBytes 8 w ≡ s → Lowered s (bitXor w 3472328296227680304)
 unfolding each
 lowered-is s w e =
     record {
@@ -176,8 +176,8 @@ lowered-is s w e =
 abbrev cleared : ℕ → ℕ → ℕ
 cleared k x = x / 2 ^ (8 * k) * 2 ^ (8 * k)
 
-cleared-bytes : (k n x : ℕ) → bytesOf (suc n) (cleared (suc k) x) ≡ 0 ∷ bytesOf n (cleared k (x / 256))
-unfolding bytesOf
+cleared-bytes : (k n x : ℕ) → lowBytes (suc n) (cleared (suc k) x) ≡ 0 ∷ lowBytes n (cleared k (x / 256))
+unfolding lowBytes
 cleared-bytes k n x =
     let y = cleared k (x / 256) in
     let p : 2 ^ (8 * suc k) ≡ 256 * 2 ^ (8 * k) = ap (λ (j : ℕ). 2 ^ j) (let z : 8 * suc k ≡ 8 + 8 * k = omega arith in z) ∙ pow-add 2 8 (8 * k) in
@@ -196,53 +196,53 @@ low-rest n w =
 none-cleared : (x : ℕ) → cleared 0 x ≡ x
 none-cleared x = omega arith
 
-after-small : (k n w : ℕ) → allSmall (bytesOf n (cleared k (bitXor w (each n 48)))) ≡ allDigits (drop k (bytesOf n w))
-unfolding allSmall allDigits bytesOf
-after-small zero n w = ap (λ (x : ℕ). allSmall (bytesOf n x)) (none-cleared (bitXor w (each n 48))) ∙ ap allSmall (low-bytes n w) ∙ low-small n w
+after-small : (k n w : ℕ) → allSmall (lowBytes n (cleared k (bitXor w (each n 48)))) ≡ allDigits (drop k (lowBytes n w))
+unfolding allSmall allDigits lowBytes
+after-small zero n w = ap (λ (x : ℕ). allSmall (lowBytes n x)) (none-cleared (bitXor w (each n 48))) ∙ ap allSmall (low-bytes n w) ∙ low-small n w
 after-small (suc k) zero w = refl
 after-small (suc k) (suc n) w =
-    ap allSmall (cleared-bytes k n (bitXor w (each (suc n) 48))) ∙ ap (λ (x : ℕ). allSmall (bytesOf n (cleared k x))) (low-rest n w) ∙ after-small k n (w / 256)
+    ap allSmall (cleared-bytes k n (bitXor w (each (suc n) 48))) ∙ ap (λ (x : ℕ). allSmall (lowBytes n (cleared k x))) (low-rest n w) ∙ after-small k n (w / 256)
 
-after-number : (k n w : ℕ) → allDigits (drop k (bytesOf n w)) ≡ true → decimal 0 (bytesOf n (cleared k (bitXor w (each n 48)))) ≡ numberFrom 0 (drop k (bytesOf n w))
-unfolding decimal numberFrom bytesOf
-after-number zero n w h = ap (λ (x : ℕ). decimal 0 (bytesOf n x)) (none-cleared (bitXor w (each n 48))) ∙ ap (decimal 0) (low-bytes n w) ∙ low-number n w 0 h
+after-number : (k n w : ℕ) → allDigits (drop k (lowBytes n w)) ≡ true → decimal 0 (lowBytes n (cleared k (bitXor w (each n 48)))) ≡ numberFrom 0 (drop k (lowBytes n w))
+unfolding decimal numberFrom lowBytes
+after-number zero n w h = ap (λ (x : ℕ). decimal 0 (lowBytes n x)) (none-cleared (bitXor w (each n 48))) ∙ ap (decimal 0) (low-bytes n w) ∙ low-number n w 0 h
 after-number (suc k) zero w h = refl
 after-number (suc k) (suc n) w h =
-    ap (decimal 0) (cleared-bytes k n (bitXor w (each (suc n) 48))) ∙ ap (λ (x : ℕ). decimal 0 (bytesOf n (cleared k x))) (low-rest n w) ∙ after-number k n (w / 256) h
+    ap (decimal 0) (cleared-bytes k n (bitXor w (each (suc n) 48))) ∙ ap (λ (x : ℕ). decimal 0 (lowBytes n (cleared k x))) (low-rest n w) ∙ after-number k n (w / 256) h
 
-pub lowered-after-is : (k : ℕ) (s : List ℕ) (w : ℕ) → bytesOf 8 w ≡ s → bitXor w 3472328296227680304 < 2 ^ 64 → Lowered (drop k s) (cleared k (bitXor w 3472328296227680304) % 2 ^ 64)
+pub lowered-after-is : (k : ℕ) (s : List ℕ) (w : ℕ) → lowBytes 8 w ≡ s → bitXor w 3472328296227680304 < 2 ^ 64 → Lowered (drop k s) (cleared k (bitXor w 3472328296227680304) % 2 ^ 64)
 unfolding each
 lowered-after-is k s w e h =
     let x = bitXor w 3472328296227680304 in
     let f : cleared k x % 2 ^ 64 ≡ cleared k x = mod-eq-of-lt (lt-of-le-of-lt (div-mul-le-self x (2 ^ (8 * k))) h) in
     record {
-      small = ap (λ (y : ℕ). allSmall (bytesOf 8 y)) f ∙ after-small k 8 w ∙ ap (λ (l : List ℕ). allDigits (drop k l)) e;
+      small = ap (λ (y : ℕ). allSmall (lowBytes 8 y)) f ∙ after-small k 8 w ∙ ap (λ (l : List ℕ). allDigits (drop k l)) e;
       number = λ d.
-          ap (λ (y : ℕ). decimal 0 (bytesOf 8 y)) f
+          ap (λ (y : ℕ). decimal 0 (lowBytes 8 y)) f
           ∙ after-number k 8 w (ap (λ (l : List ℕ). allDigits (drop k l)) e ∙ d)
           ∙ ap (λ (l : List ℕ). numberFrom 0 (drop k l)) e;
     }
 
 -- a slash taken off the first
-first-slash : (w : ℕ) → (eqb (bitXor (w % 256) 47) 0 && (leb (bitXor (w % 256) 47) 9 && allSmall (map low (bytesOf 7 (w / 256))))) ≡ (eqb (w % 256) 47 && allDigits (bytesOf 7 (w / 256)))
+first-slash : (w : ℕ) → (eqb (bitXor (w % 256) 47) 0 && (leb (bitXor (w % 256) 47) 9 && allSmall (map low (lowBytes 7 (w / 256))))) ≡ (eqb (w % 256) 47 && allDigits (lowBytes 7 (w / 256)))
 first-slash w = go (eqb (bitXor (w % 256) 47) 0) refl
   where
-    go : (t : Bool) → eqb (bitXor (w % 256) 47) 0 ≡ t → (eqb (bitXor (w % 256) 47) 0 && (leb (bitXor (w % 256) 47) 9 && allSmall (map low (bytesOf 7 (w / 256))))) ≡ (eqb (w % 256) 47 && allDigits (bytesOf 7 (w / 256)))
+    go : (t : Bool) → eqb (bitXor (w % 256) 47) 0 ≡ t → (eqb (bitXor (w % 256) 47) 0 && (leb (bitXor (w % 256) 47) 9 && allSmall (map low (lowBytes 7 (w / 256))))) ≡ (eqb (w % 256) 47 && allDigits (lowBytes 7 (w / 256)))
     go true e = rw (e, eqb-true (bitXor (w % 256) 47) 0 e, sym (byte-slash (w % 256) (omega arith)) ∙ e) (low-small 7 (w / 256))
     go false e = rw (e, sym (byte-slash (w % 256) (omega arith)) ∙ e)
 
-slash-bytes : (w : ℕ) → bytesOf 8 (bitXor w 3472328296227680303) ≡ bitXor (w % 256) 47 ∷ map low (bytesOf 7 (w / 256))
+slash-bytes : (w : ℕ) → lowBytes 8 (bitXor w 3472328296227680303) ≡ bitXor (w % 256) 47 ∷ map low (lowBytes 7 (w / 256))
 unfolding each
 slash-bytes w = xor-bytes 7 w (each 7 48) 47 (lit< tt) ∙ ap (λ (l : List ℕ). bitXor (w % 256) 47 ∷ l) (low-bytes 7 (w / 256))
 
 slash-first : (w : ℕ) → bitXor w 3472328296227680303 % 256 ≡ bitXor (w % 256) 47
 slash-first w = xor-mod w 3472328296227680303 8
 
-pub after-slash-is : (s : List ℕ) (w : ℕ) → bytesOf 8 w ≡ s → AfterSlash s (bitXor w 3472328296227680303)
-unfolding bytesOf allSmall decimal
+pub after-slash-is : (s : List ℕ) (w : ℕ) → lowBytes 8 w ≡ s → AfterSlash s (bitXor w 3472328296227680303)
+unfolding lowBytes allSmall decimal
 after-slash-is s w e =
     let h : w % 256 ≡ getD s 0 0 = ap (λ (l : List ℕ). getD l 0 0) e in
-    let r : bytesOf 7 (w / 256) ≡ drop 1 s = ap (drop 1) e in
+    let r : lowBytes 7 (w / 256) ≡ drop 1 s = ap (drop 1) e in
     record {
       small =
           ap₂ (λ (x : ℕ) (l : List ℕ). eqb x 0 && allSmall l) (slash-first w) (slash-bytes w)
@@ -250,7 +250,7 @@ after-slash-is s w e =
           ∙ ap₂ (λ (x : ℕ) (l : List ℕ). eqb x 47 && allDigits l) h r;
       number = λ f d.
           ap (decimal 0) (slash-bytes w)
-          ∙ ap (λ (x : ℕ). decimal (0 * 10 + x) (map low (bytesOf 7 (w / 256)))) (eqb-true (bitXor (w % 256) 47) 0 (byte-slash (w % 256) (omega arith) ∙ eq-eqb (w % 256) 47 (h ∙ f)))
+          ∙ ap (λ (x : ℕ). decimal (0 * 10 + x) (map low (lowBytes 7 (w / 256)))) (eqb-true (bitXor (w % 256) 47) 0 (byte-slash (w % 256) (omega arith) ∙ eq-eqb (w % 256) 47 (h ∙ f)))
           ∙ low-number 7 (w / 256) 0 (ap allDigits r ∙ d)
           ∙ ap (numberFrom 0) r;
     }

@@ -8,9 +8,9 @@ use lib.ListN.{drop, getD}
 use Rattle.digits.specs.Decimal.{allDigits, numberOf}
 
 -- the k low bytes of a word, the lowest first
-unfoldable pub bytesOf : ℕ → ℕ → List ℕ
-bytesOf zero t = []
-bytesOf (suc k) t = t % 256 ∷ bytesOf k (t / 256)
+unfoldable pub lowBytes : ℕ → ℕ → List ℕ
+lowBytes zero t = []
+lowBytes (suc k) t = t % 256 ∷ lowBytes k (t / 256)
 
 -- each number is 0 to 9
 unfoldable pub allSmall : List ℕ → Bool
@@ -24,10 +24,10 @@ decimal n (d ∷ s) = decimal (n * 10 + d) s
 
 -- the bytes of a word are 0 to 9 just where eight bytes are digits, and make their number then
 pub record Lowered (s : List ℕ) (t : ℕ) : Type 0 where
-  pub small : allSmall (bytesOf 8 t) ≡ allDigits s
-  pub number : allDigits s ≡ true → decimal 0 (bytesOf 8 t) ≡ numberOf s
+  pub small : allSmall (lowBytes 8 t) ≡ allDigits s
+  pub number : allDigits s ≡ true → decimal 0 (lowBytes 8 t) ≡ numberOf s
 
 -- they are 0 and then 0 to 9 just where eight bytes are a slash and digits, and make the digits' number then
 pub record AfterSlash (s : List ℕ) (t : ℕ) : Type 0 where
-  pub small : (eqb (t % 256) 0 && allSmall (bytesOf 8 t)) ≡ (eqb (getD s 0 0) 47 && allDigits (drop 1 s))
-  pub number : getD s 0 0 ≡ 47 → allDigits (drop 1 s) ≡ true → decimal 0 (bytesOf 8 t) ≡ numberOf (drop 1 s)
+  pub small : (eqb (t % 256) 0 && allSmall (lowBytes 8 t)) ≡ (eqb (getD s 0 0) 47 && allDigits (drop 1 s))
+  pub number : getD s 0 0 ≡ 47 → allDigits (drop 1 s) ≡ true → decimal 0 (lowBytes 8 t) ≡ numberOf (drop 1 s)

@@ -10,12 +10,12 @@ ghost use Prim.Native.Nat.{ℕ, _+_, _-_, _%_, _<_, _≤_};
 ghost use lib.ListN.{length, take, drop};
 ghost use Rattle.output.specs.Output.{Wrote};
 ghost use Rattle.digits.specs.Decimal.{digitsOf, digits};
-ghost use Rattle.words.specs.Words.{bytesOf, allSmall, decimal, Lowered, AfterSlash};
+ghost use Rattle.words.specs.Words.{lowBytes, allSmall, decimal, Lowered, AfterSlash};
 
 // Four bytes as half a word, the first lowest.
 fn four_bytes(s: &[u8]) -> u64
     requires { ⌜ length (now s) ≡ 4 ⌝ }
-    ensures { λ r. ⌜ (bytesOf 4 r ≡ now (s .entry)) × (r < 4294967296) ⌝ }
+    ensures { λ r. ⌜ (lowBytes 4 r ≡ now (s .entry)) × (r < 4294967296) ⌝ }
 {
     wide(s[0]) + wide(s[1]) * 256 + (wide(s[2]) + wide(s[3]) * 256) * 65536
 }
@@ -23,7 +23,7 @@ fn four_bytes(s: &[u8]) -> u64
 // Eight bytes as a word, the first lowest. In this shape the compiler makes it one load.
 fn eight_bytes(s: &[u8]) -> u64
     requires { ⌜ length (now s) ≡ 8 ⌝ }
-    ensures { λ r. ⌜ bytesOf 8 r ≡ now (s .entry) ⌝ }
+    ensures { λ r. ⌜ lowBytes 8 r ≡ now (s .entry) ⌝ }
 {
     four_bytes(&s[0..4]) + four_bytes(&s[4..8]) * 4294967296
 }
@@ -55,15 +55,15 @@ pub fn after_slash(s: &[u8]) -> u64
 
 // Whether each byte of a word is 0 to 9: its high half is 0, also after 6 is added to its low half.
 pub fn all_small(t: u64) -> bool
-    ensures { λ r. ⌜ r ≡ allSmall (bytesOf 8 t) ⌝ }
+    ensures { λ r. ⌜ r ≡ allSmall (lowBytes 8 t) ⌝ }
 {
     (t | ((t & 0x0F0F0F0F0F0F0F0F) + 0x0606060606060606)) & 0xF0F0F0F0F0F0F0F0 == 0
 }
 
 // The number whose eight digits are the bytes of t, the first lowest.
 pub fn value(t: u64) -> u64
-    requires { ⌜ allSmall (bytesOf 8 t) ≡ true ⌝ }
-    ensures { λ r. ⌜ r ≡ decimal 0 (bytesOf 8 t) ⌝ }
+    requires { ⌜ allSmall (lowBytes 8 t) ≡ true ⌝ }
+    ensures { λ r. ⌜ r ≡ decimal 0 (lowBytes 8 t) ⌝ }
 {
     let p = (t * 10 + (t >> 8)) & 0x00FF00FF00FF00FF;
     let f = (p * 100 + (p >> 16)) & 0x0000FFFF0000FFFF;
@@ -122,7 +122,7 @@ pub fn long_number_at(s: &[u8], from: usize, to: usize) -> Digits
 // of a sum one by one.
 fn parted(n: u64) -> u64
     requires { ⌜ n < 100000000 ⌝ }
-    ensures { λ r. ⌜ (allSmall (bytesOf 8 r) ≡ true) × (decimal 0 (bytesOf 8 r) ≡ n) ⌝ }
+    ensures { λ r. ⌜ (allSmall (lowBytes 8 r) ≡ true) × (decimal 0 (lowBytes 8 r) ≡ n) ⌝ }
 {
     let f = n * 4294967296 - n / 10000 * 42949672959999;
     let p = f * 65536 - ((f * 10486 >> 20) & 0x0000007F0000007F) * 6553599;
@@ -139,7 +139,7 @@ fn rest(n: u64, m: u64) -> u64
 
 // Writes the bytes of a word over the whole of a part, the lowest first.
 fn fill(part: &mut [u8], t: u64)
-    ensures { λ _. ⌜ now (part .exit) ≡ bytesOf (length (now (part .entry))) t ⌝ }
+    ensures { λ _. ⌜ now (part .exit) ≡ lowBytes (length (now (part .entry))) t ⌝ }
 {
     let mut i = 0;
     let mut left = t;

@@ -5,7 +5,7 @@ use Prim.Native.Nat.{ℕ, _+_, _-_, _≤_}
 use native.Mathlib.Omega.{arith}
 use denote.Ref.{now}
 use lib.ListN.{length, drop, getD}
-use Rattle.layout.specs.Fields.{Entry, entry, readable, layoutOf, lengthAt}
+use Rattle.layout.specs.Fields.{FieldEntry, entry, readable, layoutOf, lengthAt}
 use Rattle.layout.proofs.Fields.{layout-at, layout-end, readable-no, readable-more, readable-end, fits-at}
 use Rattle.layout.proofs.readable.Statement.{statement}
 use Rattle.layout.proofs.readable.Tie as tie
@@ -17,7 +17,7 @@ abbrev μ-loop : tie.MeasureT-loop
 μ-loop layout m k₀ at₀ k at = length layout - k
 
 -- the field of the layout at k
-abbrev at-k : List ℕ → ℕ → Entry
+abbrev at-k : List ℕ → ℕ → FieldEntry
 at-k l k = entry (getD l k 0) (getD l (k + 1) 0) (getD l (k + 2) 0)
 
 -- where the field starts as it should, it is within the message

@@ -6,7 +6,7 @@ use mathlib.Core.Option.{Option, none, some}
 use Prim.Native.Nat.{ℕ}
 use denote.Ref.{now}
 use Rattle.rules.specs.Opening.{Terms, openingRefused}
-use Rattle.terms.specs.Viewed.{opening, admittedIn}
+use Rattle.terms.specs.Viewed.{openingTerms, codesUnlessRefused}
 use Rattle.terms.proofs.Forming.{read-readable, read-announcement, opened-readable, opened-none, refused-some}
 use Rattle.terms.proofs.open.Statement.{statement}
 use Rattle.terms.proofs.open.Tie as tie
@@ -35,14 +35,14 @@ no-terms-requires : tie.Need-no-terms-requires
 no-terms-requires c κs = search needs
 
 returns : tie.Need-returns
-unfolding opening admittedIn
+unfolding openingTerms codesUnlessRefused
 returns c =
     let a = c .before .before .before .before .before .before .before .before .args in
     let h = accepted (c .before .before) in
     rw h (ap₂ (λ (o : Option ℕ) (t : Terms). (o, t)) (c .before .before .before .before .refusal .ensures ∙ h) (c .terms-of .ensures (now (a .codes))))
 
 returns-2 : tie.Need-returns-2
-unfolding opening admittedIn
+unfolding openingTerms codesUnlessRefused
 returns-2 c =
     let a = c .before .before .before .before .before .before .before .args in
     let r = c .before .before .before .refusal in

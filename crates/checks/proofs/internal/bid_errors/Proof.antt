@@ -12,7 +12,7 @@ use Rattle.rules.specs.Opening.{any}
 use Rattle.layout.specs.Fields.{oneOf}
 use Rattle.rules.specs.Receiving.{when, bidErrors, gap, fineRate, smallBid, unevenBid, overMaximum}
 use Rattle.bids.specs.Columns.{bidsFrom}
-use Rattle.errors.specs.Listed.{listed, named, table, idcIn}
+use Rattle.errors.specs.Listed.{listed, named, idcTable, idcIn}
 use Rattle.checks.proofs.Groups.{added, tested}
 use Rattle.checks.proofs.internal.bid_errors.Statement.{statement}
 use Rattle.checks.proofs.internal.bid_errors.Tie as tie
@@ -54,7 +54,7 @@ with-requires-6 : tie.Need-with-requires-6
 with-requires-6 c κs = search needs
 
 returns : tie.Need-returns
-unfolding bidErrors named table idcIn oneOf
+unfolding bidErrors named idcTable idcIn oneOf
 returns c =
     let with5 = c .before .before .with5 in
     let with4 = c .before .before .before .before .with4 in

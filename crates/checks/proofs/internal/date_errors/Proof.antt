@@ -7,7 +7,7 @@ use lib.Dec.{eqb}
 use Rattle.layout.specs.Fields.{oneOf}
 use Rattle.rules.specs.Opening.{isDate}
 use Rattle.rules.specs.Receiving.{when, dateErrors}
-use Rattle.errors.specs.Listed.{listed, named, table, idcIn}
+use Rattle.errors.specs.Listed.{listed, named, idcTable, idcIn}
 use Rattle.checks.proofs.Groups.{tested}
 use Rattle.checks.proofs.internal.date_errors.Statement.{statement}
 use Rattle.checks.proofs.internal.date_errors.Tie as tie
@@ -22,7 +22,7 @@ with-requires : tie.Need-with-requires
 with-requires c κs = search needs
 
 returns : tie.Need-returns
-unfolding dateErrors named table idcIn oneOf
+unfolding dateErrors named idcTable idcIn oneOf
 returns c =
     let a = c .before .before .before .before .args in
     let h : isDate (a .date) ≡ true = sym (c .before .before .before .is-date .ensures) ∙ c .before .before .if1 .taken in
@@ -32,7 +32,7 @@ with-requires-2 : tie.Need-with-requires-2
 with-requires-2 c κs = search needs
 
 returns-2 : tie.Need-returns-2
-unfolding dateErrors named table idcIn oneOf when
+unfolding dateErrors named idcTable idcIn oneOf when
 returns-2 c =
     let a = c .before .before .before .args in
     let h : isDate (a .date) ≡ false = sym (c .before .before .is-date .ensures) ∙ c .before .if1 .left in

@@ -11,7 +11,7 @@ use Rattle.envelope.specs.declared.application.Fields.{Fields}
 use Rattle.envelope.specs.Application.{fieldsOf}
 use Rattle.rules.specs.Receiving.{Error, when, errors}
 use Rattle.terms.specs.Viewed.{viewed}
-use Rattle.errors.specs.Listed.{listed, named, table, idcIn}
+use Rattle.errors.specs.Listed.{listed, named, idcTable, idcIn}
 use Rattle.checks.specs.Columns.{columnErrors, headErrors}
 use Rattle.checks.proofs.Groups.{added, tested, column-errors}
 use Rattle.checks.proofs.internal.errors_of.Statement.{statement}
@@ -30,7 +30,7 @@ with-requires : tie.Need-with-requires
 with-requires c κs = search needs
 
 returns : tie.Need-returns
-unfolding errors headErrors named table idcIn oneOf
+unfolding errors headErrors named idcTable idcIn oneOf
 returns c =
     let start = c .before .before .before .before .before .before in
     let a = start .args in

@@ -14,7 +14,7 @@ use Rattle.envelope.specs.declared.application.Field.the-variants.{MessageType,
 use Rattle.envelope.specs.Application.{bytesOf}
 use Rattle.rules.specs.Opening.{any, isTime}
 use Rattle.rules.specs.Receiving.{Error, when, senderErrors}
-use Rattle.errors.specs.Listed.{listed, named, table, idcIn}
+use Rattle.errors.specs.Listed.{listed, named, idcTable, idcIn}
 use Rattle.checks.specs.Columns.{headErrors}
 use Rattle.checks.proofs.Groups.{added, tested}
 use Rattle.checks.proofs.internal.field_errors.Statement.{statement}
@@ -83,7 +83,7 @@ with-requires-6 c κs =
     omega arith
 
 returns : tie.Need-returns
-unfolding headErrors named table idcIn oneOf
+unfolding headErrors named idcTable idcIn oneOf
 returns c =
     let a = c .before .before .before .before .before .before .before .before .before .before .before .before .before .before .before .before .before .args in
     let m = now (a .m) in

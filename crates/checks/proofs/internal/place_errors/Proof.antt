@@ -7,7 +7,7 @@ use native.Mathlib.Omega.{arith}
 use Rattle.layout.specs.Fields.{oneOf}
 use Rattle.places.specs.Bids.{allFormed}
 use Rattle.rules.specs.Receiving.{when}
-use Rattle.errors.specs.Listed.{named, table, idcIn}
+use Rattle.errors.specs.Listed.{named, idcTable, idcIn}
 use Rattle.checks.specs.Columns.{columnErrors}
 use Rattle.checks.proofs.internal.place_errors.Statement.{statement}
 use Rattle.checks.proofs.internal.place_errors.Tie as tie
@@ -29,7 +29,7 @@ with-requires : tie.Need-with-requires
 with-requires c κs = search needs
 
 returns-2 : tie.Need-returns-2
-unfolding columnErrors named table idcIn oneOf when
+unfolding columnErrors named idcTable idcIn oneOf when
 returns-2 c =
     let a = c .before .before .before .before .args in
     let h : allFormed (a .p .formed) ≡ false = sym (c .before .before .all-formed .ensures) ∙ c .before .if1 .left in

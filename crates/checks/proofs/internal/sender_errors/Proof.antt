@@ -6,7 +6,7 @@ use mathlib.Core.List.{_++_}
 use Prim.Native.Nat.{_+_, _-_}
 use Rattle.layout.specs.Fields.{oneOf}
 use Rattle.digits.specs.Decimal.{isNumber}
-use Rattle.errors.specs.Listed.{listed, named, table, idcIn}
+use Rattle.errors.specs.Listed.{listed, named, idcTable, idcIn}
 use Rattle.checks.proofs.Groups.{sender-known, sender-unknown}
 use Rattle.checks.proofs.internal.sender_errors.Statement.{statement}
 use Rattle.checks.proofs.internal.sender_errors.Tie as tie
@@ -18,7 +18,7 @@ with-requires : tie.Need-with-requires
 with-requires c κs = search needs
 
 returns : tie.Need-returns
-unfolding named table idcIn oneOf
+unfolding named idcTable idcIn oneOf
 returns c =
     let a = c .before .before .before .args in
     let h : isNumber (a .sender) ≡ true = sym (c .before .before .has-number .ensures) ∙ c .before .if1 .taken in
@@ -28,7 +28,7 @@ with-requires-2 : tie.Need-with-requires-2
 with-requires-2 c κs = search needs
 
 returns-2 : tie.Need-returns-2
-unfolding named table idcIn oneOf
+unfolding named idcTable idcIn oneOf
 returns-2 c =
     let a = c .before .before .before .args in
     let h : isNumber (a .sender) ≡ false = sym (c .before .before .has-number .ensures) ∙ c .before .if1 .left in

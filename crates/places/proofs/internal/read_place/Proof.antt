@@ -5,7 +5,7 @@ use mathlib.Core.Bool.{true}
 use Prim.Native.Nat.{_%_}
 use denote.Ref.{now}
 use lib.Dec.{eqb}
-use Rattle.words.specs.Words.{bytesOf, allSmall}
+use Rattle.words.specs.Words.{lowBytes, allSmall}
 use Rattle.places.specs.Bids.{isPlace}
 use Rattle.places.proofs.Reading.{last-three, formed-is, words-place, malformed-is}
 use Rattle.places.proofs.internal.read_place.Statement.{statement}
@@ -52,7 +52,7 @@ is-formed-requires c κs = search needs
 
 formed-place-requires : tie.Need-formed-place-requires
 formed-place-requires c κs =
-    last-three (eqb (c .before .before .before .before .after-slash .result % 256) 0) (allSmall (bytesOf 8 (c .before .before .before .before .before .before .lowered .result))) (allSmall (bytesOf 8 (c .before .before .before .before .after-slash .result))) (allSmall (bytesOf 8 (c .before .before .lowered2 .result))) (sym (c .before .is-formed .ensures) ∙ c .if1 .taken)
+    last-three (eqb (c .before .before .before .before .after-slash .result % 256) 0) (allSmall (lowBytes 8 (c .before .before .before .before .before .before .lowered .result))) (allSmall (lowBytes 8 (c .before .before .before .before .after-slash .result))) (allSmall (lowBytes 8 (c .before .before .lowered2 .result))) (sym (c .before .is-formed .ensures) ∙ c .if1 .taken)
 
 returns : tie.Need-returns
 returns c =

@@ -15,7 +15,7 @@ use Rattle.rules.specs.Allotment.{Bid}
 use Rattle.rules.specs.Opening.{any}
 use Rattle.rules.specs.Opening as rules
 use Rattle.rules.specs.Receiving.{Reception, Error, errors, isEmpty, submission, when}
-use Rattle.errors.specs.Listed.{table, idcIn, named, listed}
+use Rattle.errors.specs.Listed.{idcTable, idcIn, named, listed}
 use Rattle.terms.specs.Viewed as terms
 use Rattle.bids.specs.Columns.{bidsFrom}
 use Rattle.book.specs.declared.Book.{Book}
@@ -23,7 +23,7 @@ use Rattle.book.specs.declared.Found.the-variants.{At}
 use Rattle.book.specs.Viewed.{Lends, viewed, findFrom, codesIn, soundFrom, replaced}
 use Rattle.book.proofs.Joining.{found-below}
 use Rattle.book.proofs.Order.{codes-lent}
-use Rattle.checks.specs.Columns.{received}
+use Rattle.checks.specs.Columns.{receptionOf}
 use Rattle.reception.specs.Submission.{isAt}
 use Rattle.reception.proofs.Admission.{admitted-is}
 use Rattle.reception.proofs.Judging.{judged-found, judged-absent}
@@ -59,7 +59,7 @@ bidsAt : tie.Start → List Bid
 bidsAt c = bidsFrom (c .args .f .places .rates) (c .args .f .places .amounts) 0 10
 
 receptionAt : tie.Start → List ℕ → Reception
-receptionAt c space = received (now (c .args .m)) (c .args .day) (c .args .second) space
+receptionAt c space = receptionOf (now (c .args .m)) (c .args .day) (c .args .second) space
 
 -- the errors that the code found are those of the rules
 errors-are : (c : tie.After-errors-of) (b : Book) → LendsTo (c .before .before .before .before .before .before .before .before .before) b → (space : List ℕ)
@@ -142,7 +142,7 @@ taken-is c b l space =
 
 -- one error more, or none, is all that there is
 errors-then : (c : tie.Else1) (bad : Bool) (es : List Error) → es ≡ listed (c .before .before .errors-of .result) ++ when bad (named 302) → es ≡ when bad (ascii "601", 302)
-unfolding named idcIn table oneOf
+unfolding named idcIn idcTable oneOf
 errors-then c bad es h = h ∙ ap (λ (l : List Error). l ++ when bad (ascii "601", 302)) (none-listed c)
 
 sixteen-with : (c : tie.After-with) → length (c .with .result .codes) ≡ 16

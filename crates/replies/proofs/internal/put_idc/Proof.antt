@@ -3,7 +3,7 @@ use borrow.Author.Needs.{needs}
 use mathlib.Core.List.{flatten}
 use native.Mathlib.Omega.{arith}
 use Rattle.output.proofs.Output.{said}
-use Rattle.errors.specs.Listed.{table}
+use Rattle.errors.specs.Listed.{idcTable}
 use Rattle.replies.proofs.Texts.{idcs, idc-at, length-idc}
 use Rattle.replies.proofs.internal.put_idc.Statement.{statement}
 use Rattle.replies.proofs.internal.put_idc.Tie as tie
@@ -36,7 +36,7 @@ same-length : tie.Need-same-length
 same-length c = search needs
 
 returns : tie.Need-returns
-unfolding table idcs flatten
+unfolding idcTable idcs flatten
 returns c =
     let w = c .before .before .put .ensures in
     let r = c .before .before .before .before .before .row in

@@ -7,7 +7,7 @@ use Rattle.envelope.specs.Refusals.{unlessRefused}
 use Rattle.rules.specs.Calls as rules
 use Rattle.rules.specs.Calls.{allottingRefused}
 use Rattle.book.specs.Viewed.{bookOf}
-use Rattle.log.specs.Steps.{onTender, allotted, allotting}
+use Rattle.log.specs.Steps.{onTender, allotted, allottingStep}
 use Rattle.tender.specs.declared.State.the-variants as state
 use Rattle.steps.specs.Parts.{Parts, parts, tenderIn, viewed, withTender}
 use Rattle.steps.proofs.Taking.{other-length, its-length, takes-as, takes-ended, takes-skipped, no-tender, on-tender, takes-state}
@@ -19,7 +19,7 @@ with-change-requires : tie.Need-with-change-requires
 with-change-requires c κs = search needs
 
 returns : tie.Need-returns
-unfolding allotting
+unfolding allottingStep
 returns c codes n held has g =
     let a = c .before .before .before .before .before .before .before .args in
     let p = parts (a .opened) codes n (a .state) (a .terms) (bookOf (a .k) (now (a .admitted)) held has (now (a .rates)) (now (a .amounts))) in
@@ -29,7 +29,7 @@ with-change-requires-2 : tie.Need-with-change-requires-2
 with-change-requires-2 c κs = search needs
 
 returns-2 : tie.Need-returns-2
-unfolding allotting
+unfolding allottingStep
 returns-2 c codes n held has g =
     let a = c .before .before .before .before .before .before .before .before .args in
     let s = now (a .s) in
@@ -49,7 +49,7 @@ unfolding rules.allot
 called p o = on-tender p allotted o
 
 returns-3 : tie.Need-returns-3
-unfolding allotting
+unfolding allottingStep
 returns-3 c codes n held has g =
     let w = c .before .before .put-allotment in
     let a = c .before .before .before .before .before .before .before .before .before .before .before .args in

@@ -9,9 +9,9 @@ use borrow.Author.Tests.{not-true, not-false}
 use Rattle.envelope.specs.Refusals.{unlessRefused}
 use Rattle.rules.specs.Calls as rules
 use Rattle.rules.specs.Calls.{closingRefused}
-use Rattle.log.specs.Steps.{onTender, refusal, dateOf, timeOf, closed, closing}
+use Rattle.log.specs.Steps.{onTender, refusal, dateOf, timeOf, closed, closingStep}
 use Rattle.tender.specs.declared.State.the-variants as state
-use Rattle.tender.specs.Viewed.{numberOf}
+use Rattle.tender.specs.Viewed.{refusalNumber}
 use Rattle.steps.specs.Parts.{Parts, parts, tenderIn, viewed, withTender}
 use Rattle.steps.proofs.Taking.{other-length, its-length, takes-as, takes-ended, takes-skipped, no-tender, on-tender, takes-state}
 use borrow.Author.Needs.{needs}
@@ -22,7 +22,7 @@ with-change-requires : tie.Need-with-change-requires
 with-change-requires c κs = search needs
 
 returns : tie.Need-returns
-unfolding closing
+unfolding closingStep
 returns c codes n book g =
     let a = c .before .before .before .before .args in
     let p = parts (a .opened) codes n (a .state) (a .terms) book in
@@ -32,7 +32,7 @@ with-change-requires-2 : tie.Need-with-change-requires-2
 with-change-requires-2 c κs = search needs
 
 returns-2 : tie.Need-returns-2
-unfolding closing
+unfolding closingStep
 returns-2 c codes n book g =
     let a = c .before .before .before .before .before .args in
     let s = now (a .s) in
@@ -61,13 +61,13 @@ unfolding rules.close
 called s p l e o = ap (λ (x : Option ℕ). (withTender p (unlessRefused x (tenderIn p) (rules.inState rules.Closed (tenderIn p))), refusal x)) e ∙ on-tender p (closed s) o
 
 returns-3 : tie.Need-returns-3
-unfolding closing
+unfolding closingStep
 returns-3 c codes n book g =
     let w = c .before .before .put-into in
     let a = c .before .before .before .before .before .before .before .before .before .before .before .args in
     let s = now (a .s) in
     let p = parts (a .opened) codes n (a .state) (a .terms) book in
-    let l = numberOf (c .before .before .before .before .close-refusal .result) in
+    let l = refusalNumber (c .before .before .before .before .close-refusal .result) in
     let o = not-false _ (c .before .before .before .before .before .before .before .if2 .left) in
     let number : l ≡ closingRefused (tenderIn p) (dateOf s) (timeOf s) = c .before .before .before .before .close-refusal .ensures book ∙ ap₂ (closingRefused (tenderIn p)) (c .before .before .before .before .before .before .date-of .ensures) (c .before .before .before .before .before .time-of .ensures) in
     takes-as (called s p l number o ∙ its-length 14 (closed s) (viewed p) s (c .before .before .before .before .before .before .before .before .if1 .left)) (takes-state p g s (now (a .space)) (w .result) state.Closed l (refusal l) (w .last .1 .1 .0) o (w .ensures .1) (w .ensures .0))

@@ -22,7 +22,7 @@ use Rattle.log.specs.Lines.{refusedLine}
 use Rattle.tender.specs.declared.Tender.{Tender}
 use Rattle.tender.specs.declared.State.the-variants as state
 use Rattle.tender.specs.Viewed as tender
-use Rattle.tender.specs.Viewed.{numberOf, tenderOf}
+use Rattle.tender.specs.Viewed.{refusalNumber, tenderOf}
 use Rattle.tender.proofs.Allotting.{lent-length, lent-again}
 use Rattle.tender.proofs.Conditions.{kept-old, none-of}
 use Rattle.steps.specs.declared.Change.the-variants as change
@@ -142,7 +142,7 @@ returns c held has =
     let start = u .before .before .before .before .before in
     let b = bookWith start held has in
     let t : Tender = tenderOf (start .args .state) (start .args .terms) b in
-    let l = numberOf (k .allot-bids .result .refusal) in
+    let l = refusalNumber (k .allot-bids .result .refusal) in
     let h = sym (c .before .before .before .before .before .before .before .is-refused .ensures) ∙ c .before .before .before .before .before .before .if1 .taken in
     let w = c .before .before .before .put-refused in
     let q = c .with-change .ensures in
@@ -215,7 +215,7 @@ returns-2 c held has =
     let b = bookWith start held has in
     let t : Tender = tenderOf (start .args .state) (start .args .terms) b in
     let n = u .up-to-64 .result in
-    let l = numberOf (k .allot-bids .result .refusal) in
+    let l = refusalNumber (k .allot-bids .result .refusal) in
     let h = sym (c .before .before .before .before .before .before .before .before .before .before .is-refused .ensures) ∙ c .before .before .before .before .before .before .before .before .before .if1 .left in
     let w = c .before .before .before .put-awards in
     let q = c .with-change2 .ensures in

@@ -6,7 +6,7 @@ use Rattle.output.specs.Output.{Wrote}
 use Rattle.output.proofs.Output.{said}
 use Rattle.envelope.specs.Refusals.{unlessRefused}
 use Rattle.log.specs.Lines.{refusedLine}
-use Rattle.tender.specs.Viewed.{numberOf}
+use Rattle.tender.specs.Viewed.{refusalNumber}
 use Rattle.tender.proofs.Conditions.{kept-old, none-of}
 use Rattle.steps.specs.declared.Change.the-variants as change
 use Rattle.steps.proofs.Taking.{unwritten, refusal-some, refusal-none}
@@ -33,7 +33,7 @@ returns : tie.Need-returns
 returns c =
     let i = c .before .before .before .before .before .before .before in
     let a = i .before .before .args in
-    let l = numberOf (a .refusal) in
+    let l = refusalNumber (a .refusal) in
     let h = sym (i .is-refused .ensures) ∙ c .before .before .before .before .before .before .if1 .taken in
     let w = c .before .before .before .put-refused in
     let q = c .with-change .ensures in
@@ -46,7 +46,7 @@ returns-2 : tie.Need-returns-2
 returns-2 c =
     let i = c .before .before in
     let a = i .before .before .args in
-    let l = numberOf (a .refusal) in
+    let l = refusalNumber (a .refusal) in
     let h = sym (i .is-refused .ensures) ∙ c .before .if1 .left in
     let q = c .with-change2 .ensures in
     (said (refusal-none l h) (unwritten _ _ (q .0)), q .1 ∙ sym (ap (λ (x : Option ℕ). unlessRefused x change.None (change.InState (a .state))) (none-of l h)))

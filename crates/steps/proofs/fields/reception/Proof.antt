@@ -9,7 +9,7 @@ use Rattle.output.specs.Output.{Wrote}
 use Rattle.output.proofs.Output.{said}
 use Rattle.book.specs.declared.Book.{Book}
 use Rattle.book.specs.Viewed.{bookOf}
-use Rattle.log.specs.Steps.{ending, onTender, received, reception}
+use Rattle.log.specs.Steps.{ending, onTender, received, receptionStep}
 use Rattle.tender.specs.declared.Tender.{Tender}
 use Rattle.tender.specs.Viewed.{tenderOf}
 use Rattle.steps.specs.Parts.{Parts, parts, viewed}
@@ -23,12 +23,12 @@ with-change-requires : tie.Need-with-change-requires
 with-change-requires c κs = search needs
 
 -- a field that is too short, and one that is not
-ends : (s : List ℕ) (p : Parts) → length s < 14 → ending (viewed p) ≡ reception (viewed p) s
-unfolding reception
+ends : (s : List ℕ) (p : Parts) → length s < 14 → ending (viewed p) ≡ receptionStep (viewed p) s
+unfolding receptionStep
 ends s p h = sym (rw (lt-ltb (length s) 14 h) refl)
 
-calls : (s : List ℕ) (p : Parts) → 14 ≤ length s → onTender (viewed p) (received s) ≡ reception (viewed p) s
-unfolding reception
+calls : (s : List ℕ) (p : Parts) → 14 ≤ length s → onTender (viewed p) (received s) ≡ receptionStep (viewed p) s
+unfolding receptionStep
 calls s p h = sym (rw (le-ltb (length s) 14 h) refl)
 
 returns : tie.Need-returns

@@ -9,9 +9,9 @@ use borrow.Author.Tests.{not-true, not-false}
 use Rattle.envelope.specs.Refusals.{unlessRefused}
 use Rattle.rules.specs.Calls as rules
 use Rattle.rules.specs.Calls.{revokingRefused}
-use Rattle.log.specs.Steps.{onTender, refusal, revoked, revocation}
+use Rattle.log.specs.Steps.{onTender, refusal, revoked, revocationStep}
 use Rattle.tender.specs.declared.State.the-variants as state
-use Rattle.tender.specs.Viewed.{numberOf}
+use Rattle.tender.specs.Viewed.{refusalNumber}
 use Rattle.steps.specs.Parts.{Parts, parts, tenderIn, viewed, withTender}
 use Rattle.steps.proofs.Taking.{other-length, its-length, takes-as, takes-ended, takes-skipped, no-tender, on-tender, takes-state}
 use borrow.Author.Needs.{needs}
@@ -22,7 +22,7 @@ with-change-requires : tie.Need-with-change-requires
 with-change-requires c κs = search needs
 
 returns : tie.Need-returns
-unfolding revocation
+unfolding revocationStep
 returns c codes n terms book g =
     let a = c .before .before .before .before .args in
     let p = parts (a .opened) codes n (a .state) terms book in
@@ -32,7 +32,7 @@ with-change-requires-2 : tie.Need-with-change-requires-2
 with-change-requires-2 c κs = search needs
 
 returns-2 : tie.Need-returns-2
-unfolding revocation
+unfolding revocationStep
 returns-2 c codes n terms book g =
     let a = c .before .before .before .before .before .args in
     let s = now (a .s) in
@@ -55,13 +55,13 @@ unfolding rules.revoke
 called s p l e o = ap (λ (x : Option ℕ). (withTender p (unlessRefused x (tenderIn p) (rules.inState rules.Revoked (tenderIn p))), refusal x)) e ∙ on-tender p revoked o
 
 returns-3 : tie.Need-returns-3
-unfolding revocation
+unfolding revocationStep
 returns-3 c codes n terms book g =
     let w = c .before .before .put-into in
     let a = c .before .before .before .before .before .before .before .before .before .args in
     let s = now (a .s) in
     let p = parts (a .opened) codes n (a .state) terms book in
-    let l = numberOf (c .before .before .before .before .revoke-refusal .result) in
+    let l = refusalNumber (c .before .before .before .before .revoke-refusal .result) in
     let o = not-false _ (c .before .before .before .before .before .if2 .left) in
     let number : l ≡ revokingRefused (tenderIn p) = c .before .before .before .before .revoke-refusal .ensures terms book in
     takes-as (called s p l number o ∙ its-length 0 revoked (viewed p) s (c .before .before .before .before .before .before .if1 .left)) (takes-state p g s (now (a .space)) (w .result) state.Revoked l (refusal l) (w .last .1 .1 .0) o (w .ensures .1) (w .ensures .0))

@@ -12,7 +12,7 @@ use Rattle.envelope.specs.Application.{layout6G1}
 use Rattle.errors.specs.Listed.{listed}
 use Rattle.log.specs.Lines.{refusedLine}
 use Rattle.reception.proofs.Listing.{listed-none, listed-some}
-use Rattle.tender.specs.Viewed.{numberOf, isSome}
+use Rattle.tender.specs.Viewed.{refusalNumber, isSome}
 use Rattle.tender.proofs.Conditions.{none-of}
 use Rattle.steps.proofs.Answered.{line-refused, line-confirmed, line-returned}
 use Rattle.steps.proofs.internal.put_answer.Statement.{statement}
@@ -34,16 +34,16 @@ returns : tie.Need-returns
 returns c = λ k.
     let a = c .before .before .before .before .before .before .before .before .before .before .args in
     let written = c .before .before .put-refused in
-    said (ap refusedLine (c .before .before .before .number-of .ensures) ∙ line-refused (numberOf (a .r)) (listed (a .e)) k (now (a .s)) (sym (c .before .before .before .before .before .before .is-refused .ensures) ∙ c .before .before .before .before .before .if1 .taken)) (written .ensures)
+    said (ap refusedLine (c .before .before .before .number-of .ensures) ∙ line-refused (refusalNumber (a .r)) (listed (a .e)) k (now (a .s)) (sym (c .before .before .before .before .before .before .is-refused .ensures) ∙ c .before .before .before .before .before .if1 .taken)) (written .ensures)
 
 -- not refused, so that the message is readable
-accepted : (c : tie.Else1) → isSome (numberOf (c .before .before .before .before .before .args .r)) ≡ false
+accepted : (c : tie.Else1) → isSome (refusalNumber (c .before .before .before .before .before .args .r)) ≡ false
 accepted c = sym (c .before .is-refused .ensures) ∙ c .if1 .left
 
 readable-then : (c : tie.Else1) → readable layout6G1 (now (c .before .before .before .before .before .args .m)) ≡ true
 readable-then c =
     let start = c .before .before .before .before .before in
-    start .pre .0 (none-of (numberOf (start .args .r)) (accepted c))
+    start .pre .0 (none-of (refusalNumber (start .args .r)) (accepted c))
 
 sixteen : (c : tie.Start) → length (c .args .e .codes) ≡ 16
 sixteen c = search needs
@@ -63,7 +63,7 @@ returns-2 c = λ k.
     let a = e .before .before .before .before .before .args in
     let p = e .before .before .before .before .before .pre in
     let empty = listed-none (a .e .codes) (a .e .n) (omega (arith, c .before .before .before .before .if2 .taken)) in
-    said (line-confirmed (numberOf (a .r)) (listed (a .e)) k (now (a .s)) (now (a .m)) (accepted e) empty (p .1 .1)) (c .before .before .put-confirmed .ensures)
+    said (line-confirmed (refusalNumber (a .r)) (listed (a .e)) k (now (a .s)) (now (a .m)) (accepted e) empty (p .1 .1)) (c .before .before .put-confirmed .ensures)
 
 put-returned-requires : tie.Need-put-returned-requires
 put-returned-requires c κs =
@@ -82,7 +82,7 @@ returns-3 c = λ k.
     let start = e .before .before .before .before .before in
     let a = start .args in
     let some = listed-some (a .e .codes) (a .e .n) (omega (arith, c .before .before .before .before .if2 .left)) (omega (arith, sixteen start)) in
-    said (line-returned (numberOf (a .r)) (listed (a .e)) k (now (a .s)) (now (a .m)) (accepted e) some (start .pre .1 .1)) (c .before .before .put-returned .ensures)
+    said (line-returned (refusalNumber (a .r)) (listed (a .e)) k (now (a .s)) (now (a .m)) (accepted e) some (start .pre .1 .1)) (c .before .before .put-returned .ensures)
 
 pub put-answer-spec : {M : Type 1} → statement M
 put-answer-spec =

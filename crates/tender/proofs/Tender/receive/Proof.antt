@@ -17,11 +17,11 @@ use Rattle.rules.specs.Opening.{rising}
 use Rattle.rules.specs.Receiving.{Entry}
 use Rattle.rules.specs.Calls.{answerUnless, receive}
 use Rattle.errors.specs.Listed.{listed}
-use Rattle.checks.specs.Columns.{received}
+use Rattle.checks.specs.Columns.{receptionOf}
 use Rattle.tender.specs.declared.Refusal.the-variants as refusal
 use Rattle.tender.specs.declared.Received.{Received}
 use Rattle.tender.specs.declared.internal.Outcome.{Outcome}
-use Rattle.tender.specs.Viewed.{viewed, numberOf, isSome, tenderOf, isHeld}
+use Rattle.tender.specs.Viewed.{viewed, refusalNumber, isSome, tenderOf, isHeld}
 use Rattle.tender.specs.Calls.{ComesTo, Receives}
 use Rattle.tender.proofs.Conditions.{none-of}
 use Rattle.tender.proofs.Answering.{receives-refused, receives-answered}
@@ -63,12 +63,12 @@ returns c =
     let start = o .before .before .before .before .before .before .before .before .before .before .before in
     let a = start .args in
     let e = c .unreceived .ensures in
-    receives-refused (a .self) (start .pre) (received (now (a .m)) (a .date) (a .time) (now (a .space))) (c .unreceived .result) (e .1) (e .2) (e .3) (e .4) (o .outcome-of .result .refusal) (e .0)
+    receives-refused (a .self) (start .pre) (receptionOf (now (a .m)) (a .date) (a .time) (now (a .space))) (c .unreceived .result) (e .1) (e .2) (e .3) (e .4) (o .outcome-of .result .refusal) (e .0)
     (sym (comes o .number (now (a .space)) refl))
     (sym (c .before .before .is-refused .ensures) ∙ c .before .if1 .taken)
 
 -- the reception is not refused
-unrefused : (c : tie.Else1) → numberOf (c .before .before .outcome-of .result .refusal) ≡ none
+unrefused : (c : tie.Else1) → refusalNumber (c .before .before .outcome-of .result .refusal) ≡ none
 unrefused c = none-of _ (sym (c .before .is-refused .ensures) ∙ c .if1 .left)
 
 put-reply-requires : tie.Need-put-reply-requires
@@ -84,7 +84,7 @@ same-length : tie.Need-same-length
 same-length c = search needs
 
 -- a message with errors is not held
-not-held : (o : Outcome) → numberOf (o .refusal) ≡ none → 0 < o .errors .n → isHeld o ≡ false
+not-held : (o : Outcome) → refusalNumber (o .refusal) ≡ none → 0 < o .errors .n → isHeld o ≡ false
 not-held o q h = ap (λ (l : Option ℕ). not (isSome l) && eqb (o .errors .n) 0) q ∙ ne-eqb (o .errors .n) 0 (λ e. omega (arith, h, e))
 
 returns-2 : tie.Need-returns-2
@@ -95,7 +95,7 @@ returns-2 c =
     let o = l .before .before in
     let start = o .before .before .before .before .before .before .before .before .before .before .before in
     let a = start .args in
-    let x = received (now (a .m)) (a .date) (a .time) (now (a .space)) in
+    let x = receptionOf (now (a .m)) (a .date) (a .time) (now (a .space)) in
     let e = comes o in
     let q = unrefused l in
     let r = o .outcome-of .result in

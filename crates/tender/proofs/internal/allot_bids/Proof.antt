@@ -3,7 +3,7 @@ use mathlib.Core.Path.{refl, sym, _∙_}
 use denote.Ref.{now}
 use Rattle.bids.specs.Columns.{bidsOf}
 use Rattle.tender.specs.declared.Tender.{Tender}
-use Rattle.tender.specs.Viewed.{numberOf, tenderOf}
+use Rattle.tender.specs.Viewed.{refusalNumber, tenderOf}
 use Rattle.tender.proofs.Allotting.{allots-not, allots-bids}
 use borrow.Author.Needs.{needs}
 use Rattle.tender.proofs.internal.allot_bids.Statement.{statement}
@@ -36,7 +36,7 @@ returns-2 c book all =
     let allotted = c .before .before .before .allot in
     let a = c .before .before .before .before .before .before .before .before .before .before .before .before .before .args in
     let t : Tender = tenderOf (a .state) (a .terms) book in
-    allots-bids t (now (a .awards)) _ (numberOf (c .before .before .before .before .before .before .before .before .before .not-closed .result)) (bidsOf (now (a .rates)) (now (a .amounts))) (allotted .result .exceeds) (allotted .last .1 .1 .1 .0) all (c .before .before .before .before .before .before .before .before .before .not-closed .ensures t refl)
+    allots-bids t (now (a .awards)) _ (refusalNumber (c .before .before .before .before .before .before .before .before .before .not-closed .result)) (bidsOf (now (a .rates)) (now (a .amounts))) (allotted .result .exceeds) (allotted .last .1 .1 .1 .0) all (c .before .before .before .before .before .before .before .before .before .not-closed .ensures t refl)
     (sym (c .before .before .before .before .before .before .before .before .is-refused .ensures) ∙ c .before .before .before .before .before .before .before .if1 .left) (c .bids-refusal .ensures) (allotted .ensures)
 
 pub allot-bids-spec : {M : Type 1} → statement M

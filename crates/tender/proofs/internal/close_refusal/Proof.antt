@@ -5,7 +5,7 @@ use mathlib.Core.List.{[], _∷_}
 use Rattle.envelope.specs.Refusals.{firstHolding}
 use Rattle.rules.specs.Calls.{isRevoked, isOver, clockInvalid, beforeCutOff, closingRefused}
 use Rattle.book.specs.declared.Book.{Book}
-use Rattle.tender.specs.Viewed.{viewed, numberOf, tenderOf}
+use Rattle.tender.specs.Viewed.{viewed, refusalNumber, tenderOf}
 use Rattle.tender.proofs.Conditions.{refused-first, refused-later}
 use borrow.Author.Needs.{needs}
 use Rattle.tender.proofs.internal.close_refusal.Statement.{statement}
@@ -24,7 +24,7 @@ returns c book =
     let a = n .before .args in
     let u = tenderOf (a .state) (a .terms) book in
     let t = viewed u in
-    sym (refused-first ((8, isRevoked t) ∷ (9, isOver t) ∷ (10, clockInvalid (a .date) (a .time)) ∷ []) ((13, beforeCutOff (t .terms) (a .date) (a .time)) ∷ []) (numberOf (n .not-open .result)) (n .not-open .ensures u refl) (sym (c .before .is-refused .ensures) ∙ c .if1 .taken))
+    sym (refused-first ((8, isRevoked t) ∷ (9, isOver t) ∷ (10, clockInvalid (a .date) (a .time)) ∷ []) ((13, beforeCutOff (t .terms) (a .date) (a .time)) ∷ []) (refusalNumber (n .not-open .result)) (n .not-open .ensures u refl) (sym (c .before .is-refused .ensures) ∙ c .if1 .taken))
 
 -- what is left to ask of an open tender at a valid clock reading
 last-asked : (c : tie.Else1) (book : Book)
@@ -37,7 +37,7 @@ last-asked c book =
     let a = n .before .args in
     let u = tenderOf (a .state) (a .terms) book in
     let t = viewed u in
-    refused-later ((8, isRevoked t) ∷ (9, isOver t) ∷ (10, clockInvalid (a .date) (a .time)) ∷ []) ((13, beforeCutOff (t .terms) (a .date) (a .time)) ∷ []) (numberOf (n .not-open .result)) (n .not-open .ensures u refl) (sym (c .before .is-refused .ensures) ∙ c .if1 .left)
+    refused-later ((8, isRevoked t) ∷ (9, isOver t) ∷ (10, clockInvalid (a .date) (a .time)) ∷ []) ((13, beforeCutOff (t .terms) (a .date) (a .time)) ∷ []) (refusalNumber (n .not-open .result)) (n .not-open .ensures u refl) (sym (c .before .is-refused .ensures) ∙ c .if1 .left)
 
 moment-later-requires : tie.Need-moment-later-requires
 moment-later-requires c κs = search needs

@@ -13,10 +13,10 @@ use Rattle.envelope.specs.Application.{unreadable, readRefusal}
 use Rattle.rules.specs.Calls.{isRevoked, isOver, clockInvalid, spaceShort, receivingRefused}
 use Rattle.book.specs.declared.Book.{Book}
 use Rattle.book.specs.Viewed.{bookOf}
-use Rattle.checks.specs.Columns.{received}
+use Rattle.checks.specs.Columns.{receptionOf}
 use Rattle.tender.specs.declared.Refusal.the-variants as refusal
 use Rattle.tender.specs.declared.Tender.{Tender}
-use Rattle.tender.specs.Viewed.{viewed, numberOf, isSome, tenderOf}
+use Rattle.tender.specs.Viewed.{viewed, refusalNumber, isSome, tenderOf}
 use Rattle.tender.proofs.Conditions.{refused-first, refused-later, clock-valid}
 use Rattle.tender.proofs.Answering.{number-read, readable-read, fields-read}
 use Rattle.tender.proofs.Outcomes.{comes-refused, comes-answered}
@@ -44,9 +44,9 @@ returns c b lent =
     let u = tenderOf (a .state) (a .terms) b in
     let t = viewed u in
     let e = c .refused-with .ensures in
-    let refused : isSome (numberOf (n .not-open .result)) ≡ true = sym (c .before .before .is-refused .ensures) ∙ c .before .if1 .taken in
+    let refused : isSome (refusalNumber (n .not-open .result)) ≡ true = sym (c .before .before .is-refused .ensures) ∙ c .before .if1 .taken in
     comes-refused u (now (a .m)) (a .date) (a .time) (a .room) (c .refused-with .result) (n .not-open .result) (e .0) (e .1) (e .2) refused
-    (λ space l. refused-first ((8, isRevoked t) ∷ (9, isOver t) ∷ (10, clockInvalid (a .date) (a .time)) ∷ []) ((11, spaceShort space) ∷ (12, unreadable (now (a .m))) ∷ []) (numberOf (n .not-open .result)) (n .not-open .ensures u refl) refused)
+    (λ space l. refused-first ((8, isRevoked t) ∷ (9, isOver t) ∷ (10, clockInvalid (a .date) (a .time)) ∷ []) ((11, spaceShort space) ∷ (12, unreadable (now (a .m))) ∷ []) (refusalNumber (n .not-open .result)) (n .not-open .ensures u refl) refused)
 
 refused-with-requires-2 : tie.Need-refused-with-requires-2
 refused-with-requires-2 c κs = search needs
@@ -54,14 +54,14 @@ refused-with-requires-2 c κs = search needs
 -- what is left to ask of an open tender at a valid clock reading
 asked-then : (c : tie.Else1) (b : Book) (space : List ℕ)
     → (let start = c .before .before .before .before .before .before .before in
-    receivingRefused (viewed (tenderAt start b)) (received (now (start .args .m)) (start .args .date) (start .args .time) space) ≡ firstHolding ((11, spaceShort space) ∷ (12, unreadable (now (start .args .m))) ∷ []))
+    receivingRefused (viewed (tenderAt start b)) (receptionOf (now (start .args .m)) (start .args .date) (start .args .time) space) ≡ firstHolding ((11, spaceShort space) ∷ (12, unreadable (now (start .args .m))) ∷ []))
 unfolding tenderAt receivingRefused
 asked-then c b space =
     let n = c .before .before in
     let a = n .before .before .before .before .before .args in
     let u = tenderOf (a .state) (a .terms) b in
     let t = viewed u in
-    refused-later ((8, isRevoked t) ∷ (9, isOver t) ∷ (10, clockInvalid (a .date) (a .time)) ∷ []) ((11, spaceShort space) ∷ (12, unreadable (now (a .m))) ∷ []) (numberOf (n .not-open .result)) (n .not-open .ensures u refl) (sym (c .before .is-refused .ensures) ∙ c .if1 .left)
+    refused-later ((8, isRevoked t) ∷ (9, isOver t) ∷ (10, clockInvalid (a .date) (a .time)) ∷ []) ((11, spaceShort space) ∷ (12, unreadable (now (a .m))) ∷ []) (refusalNumber (n .not-open .result)) (n .not-open .ensures u refl) (sym (c .before .is-refused .ensures) ∙ c .if1 .left)
 
 returns-2 : tie.Need-returns-2
 unfolding tenderAt firstHolding spaceShort
@@ -79,7 +79,7 @@ read-requires c κs = search needs
 asked-last : (c : tie.Else2) (b : Book) (space : List ℕ)
     → (let start = c .before .before .before .before .before .before .before .before in
     length space ≡ start .args .room
-    → receivingRefused (viewed (tenderAt start b)) (received (now (start .args .m)) (start .args .date) (start .args .time) space) ≡ firstHolding ((12, unreadable (now (start .args .m))) ∷ []))
+    → receivingRefused (viewed (tenderAt start b)) (receptionOf (now (start .args .m)) (start .args .date) (start .args .time) space) ≡ firstHolding ((12, unreadable (now (start .args .m))) ∷ []))
 unfolding firstHolding spaceShort
 asked-last c b space h =
     let a = c .before .before .before .before .before .before .before .before .args in
@@ -111,7 +111,7 @@ judged-requires c κs =
           readable-read (now (a .m)) (r .read .result .answer) (r .read .result .fields) (r .read .ensures) is-readable,
           (
             fields-read (now (a .m)) (r .read .result .answer) (r .read .result .fields) (r .read .ensures) is-readable,
-            clock-valid (viewed u) (a .date) (a .time) (numberOf (n .not-open .result)) (n .not-open .ensures u refl) unrefused,
+            clock-valid (viewed u) (a .date) (a .time) (refusalNumber (n .not-open .result)) (n .not-open .ensures u refl) unrefused,
           ),
         ),
       ),

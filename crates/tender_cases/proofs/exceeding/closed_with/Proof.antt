@@ -3,7 +3,7 @@ use borrow.Author.Needs.{needs}
 use mathlib.Core.Path.{ap, _∙_}
 use Rattle.rules.specs.Opening.{rising}
 use Rattle.tender.specs.declared.Tender.{Tender}
-use Rattle.tender.specs.Viewed.{codesOf}
+use Rattle.tender.specs.Viewed.{admittedCodes}
 use Rattle.tender_cases.proofs.exceeding.closed_with.Statement.{statement}
 use Rattle.tender_cases.proofs.exceeding.closed_with.Tie as tie
 
@@ -23,7 +23,7 @@ tender-of-requires : tie.Need-tender-of-requires
 tender-of-requires c κs = search needs
 
 returns : tie.Need-returns
-returns c = record { rises = ap (λ (t : Tender). rising (codesOf t)) (c .tender-of .ensures) ∙ c .before .book-of .ensures }
+returns c = record { rises = ap (λ (t : Tender). rising (admittedCodes t)) (c .tender-of .ensures) ∙ c .before .book-of .ensures }
 
 pub closed-with-spec : {M : Type 1} → statement M
 closed-with-spec =

@@ -5,13 +5,13 @@ use Prim.Native.Nat.{_-_, _≤_}
 use native.Mathlib.Omega.{arith}
 use denote.Ref.{now}
 use lib.ListN.{length, take, length-set}
-use Rattle.words.specs.Words.{bytesOf}
+use Rattle.words.specs.Words.{lowBytes}
 use Rattle.words.proofs.Text.{all-bytes, store-byte, no-bytes}
 use Rattle.words.proofs.internal.fill.Statement.{statement}
 use Rattle.words.proofs.internal.fill.Tie as tie
 
 abbrev Inv-loop : tie.InvT-loop
-Inv-loop part₀ t i₀ left₀ part i left = (i ≤ length part) × (length part ≡ length part₀) × (take i part ++ bytesOf (length part - i) left ≡ bytesOf (length part₀) t)
+Inv-loop part₀ t i₀ left₀ part i left = (i ≤ length part) × (length part ≡ length part₀) × (take i part ++ lowBytes (length part - i) left ≡ lowBytes (length part₀) t)
 
 abbrev μ-loop : tie.MeasureT-loop
 μ-loop part₀ t i₀ left₀ part i left = length part - i

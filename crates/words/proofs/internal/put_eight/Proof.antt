@@ -8,7 +8,7 @@ use lib.ListN.{length, take, drop}
 use Rattle.output.proofs.Output.{part-back, length-part}
 use Rattle.digits.specs.Decimal.{digits}
 use Rattle.digits.proofs.Writing.{length-digits}
-use Rattle.words.specs.Words.{bytesOf}
+use Rattle.words.specs.Words.{lowBytes}
 use Rattle.words.proofs.Adding.{eight-of, eight-max}
 use Rattle.words.proofs.Text.{eight-text}
 use Rattle.words.proofs.internal.put_eight.Statement.{statement}
@@ -48,7 +48,7 @@ returns c =
     let a = p .before .before .before .args in
     let k : length (take (a .at + 8 - a .at) (drop (a .at) (now (a .space)))) ≡ 8 = length-part (now (a .space)) (a .at) 8 (omega arith) in
     let t = eight-text (p .parted .result) (a .n) (p .parted .ensures .0) (p .parted .ensures .1 ∙ p .before .rest .ensures) in
-    let e : f .fill .last .0 ≡ digits 8 (a .n) = f .fill .ensures ∙ ap (λ (j : ℕ). bytesOf j (p .parted .result + 3472328296227680304)) k ∙ t in
+    let e : f .fill .last .0 ≡ digits 8 (a .n) = f .fill .ensures ∙ ap (λ (j : ℕ). lowBytes j (p .parted .result + 3472328296227680304)) k ∙ t in
     let l : length (digits 8 (a .n)) ≡ 8 = length-digits 8 (a .n) in
     (record { bytes = rw e (part-back (now (a .space)) (a .at) 8 (digits 8 (a .n)) l); past = ap (λ (j : ℕ). a .at + j) (sym l) }, refl)
 

@@ -9,7 +9,7 @@ use lib.ListN.{length, take, drop}
 use Rattle.output.proofs.Output.{part-back, length-part}
 use Rattle.digits.specs.Decimal.{digits}
 use Rattle.digits.proofs.Writing.{length-digits}
-use Rattle.words.specs.Words.{bytesOf}
+use Rattle.words.specs.Words.{lowBytes}
 use Rattle.words.proofs.Adding.{eight-of, eight-max}
 use Rattle.words.proofs.Text.{seven-text}
 use Rattle.words.proofs.internal.put_seven.Statement.{statement}
@@ -49,7 +49,7 @@ returns c =
     let a = p .before .before .before .args in
     let k : length (take (a .at + 8 - a .at) (drop (a .at) (now (a .space)))) ≡ 8 = length-part (now (a .space)) (a .at) 8 (omega arith) in
     let t = seven-text (p .parted .result) (a .n) (p .parted .ensures .0) (p .parted .ensures .1 ∙ p .before .rest .ensures) in
-    let e : f .fill .last .0 ≡ 47 ∷ digits 7 (a .n) = f .fill .ensures ∙ ap (λ (j : ℕ). bytesOf j (p .parted .result + 3472328296227680303)) k ∙ t in
+    let e : f .fill .last .0 ≡ 47 ∷ digits 7 (a .n) = f .fill .ensures ∙ ap (λ (j : ℕ). lowBytes j (p .parted .result + 3472328296227680303)) k ∙ t in
     let l : length (47 ∷ digits 7 (a .n)) ≡ 8 = ap suc (length-digits 7 (a .n)) in
     (record { bytes = rw e (part-back (now (a .space)) (a .at) 8 (47 ∷ digits 7 (a .n)) l); past = ap (λ (j : ℕ). a .at + j) (sym l) }, refl)
 
