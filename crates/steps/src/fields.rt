@@ -61,7 +61,7 @@ pub fn ended() -> Taken
 }
 
 // A0: the codes admitted to the next tender.
-pub fn admissionStep(s: &[u8]) -> Taken
+pub fn admission(s: &[u8]) -> Taken
     ensures { λ r. ⌜ ((p : Parts) (space : List ℕ) → Given p → Takes (admissionStep (viewed p) (now (s .entry))) p (now (s .entry)) space r space) ⌝ }
 {
     if (s.len() % 5 == 0) & all_digits(s) {
@@ -72,7 +72,7 @@ pub fn admissionStep(s: &[u8]) -> Taken
 }
 
 // A1: an announcement.
-pub fn announcementStep(codes: [u32; 65], n: usize, s: &[u8], space: &mut [u8]) -> Taken
+pub fn announcement(codes: [u32; 65], n: usize, s: &[u8], space: &mut [u8]) -> Taken
     requires { ⌜ n ≤ 65 ⌝ }
     requires { ⌜ 11 ≤ length (now space) ⌝ }
     ensures { λ r. ⌜ ((opened : Bool) (state : State) (terms : Terms) (book : Book) → Given (parts opened codes n state terms book) → Takes (announcementStep (viewed (parts opened codes n state terms book)) (now (s .entry))) (parts opened codes n state terms book) (now (s .entry)) (now (space .entry)) r (now (space .exit))) ⌝ }
@@ -93,7 +93,7 @@ pub fn announcementStep(codes: [u32; 65], n: usize, s: &[u8], space: &mut [u8]) 
 }
 
 // A2: a reception.
-pub fn receptionStep<'a>(
+pub fn reception<'a>(
     opened: bool,
     state: State,
     terms: Terms,
@@ -156,7 +156,7 @@ fn put_into(state: State, refusal: Refusal, space: &mut [u8]) -> Taken
 }
 
 // A3: closing.
-pub fn closingStep(opened: bool, state: State, terms: Terms, s: &[u8], space: &mut [u8]) -> Taken
+pub fn closing(opened: bool, state: State, terms: Terms, s: &[u8], space: &mut [u8]) -> Taken
     requires { ⌜ 11 ≤ length (now space) ⌝ }
     ensures { λ r. ⌜ ((codes : List ℕ) (n : ℕ) (book : Book) → Given (parts opened codes n state terms book) → Takes (closingStep (viewed (parts opened codes n state terms book)) (now (s .entry))) (parts opened codes n state terms book) (now (s .entry)) (now (space .entry)) r (now (space .exit))) ⌝ }
 {
@@ -171,7 +171,7 @@ pub fn closingStep(opened: bool, state: State, terms: Terms, s: &[u8], space: &m
 }
 
 // A4: revocation.
-pub fn revocationStep(opened: bool, state: State, s: &[u8], space: &mut [u8]) -> Taken
+pub fn revocation(opened: bool, state: State, s: &[u8], space: &mut [u8]) -> Taken
     requires { ⌜ 11 ≤ length (now space) ⌝ }
     ensures { λ r. ⌜ ((codes : List ℕ) (n : ℕ) (terms : Terms) (book : Book) → Given (parts opened codes n state terms book) → Takes (revocationStep (viewed (parts opened codes n state terms book)) (now (s .entry))) (parts opened codes n state terms book) (now (s .entry)) (now (space .entry)) r (now (space .exit))) ⌝ }
 {
@@ -219,7 +219,7 @@ fn put_allotment<'a>(
 }
 
 // A5: allotment.
-pub fn allottingStep<'a>(
+pub fn allotting<'a>(
     opened: bool,
     state: State,
     terms: Terms,
