@@ -12,7 +12,7 @@ use Rattle.log.specs.Steps.{Log, start, holdsField, walked, logFrom, logOf}
 use Rattle.journal.specs.Runs.{RunsAll, no-more, and-next, LogOfRuns}
 
 -- a text written from the start is the first bytes of the space after
-written-first : (space text after : List ℕ) (n : ℕ) → Wrote space 0 text after n → take n after ≡ text
+pub written-first : (space text after : List ℕ) (n : ℕ) → Wrote space 0 text after n → take n after ≡ text
 written-first space text after n w =
     ap (take n) (w .bytes ∙ from-start space text) ∙ take-at text (drop (length text) space) n (sym (w .past ∙ zero-add (length text)))
 

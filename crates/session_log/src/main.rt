@@ -6,21 +6,46 @@ use journal::start;
 use libc::STDIN_FILENO;
 use libc::STDOUT_FILENO;
 ghost use mathlib.Core.Path.{_≡_};
+ghost use mathlib.Core.List.{_++_};
 ghost use Prim.Native.Nat.{_+_, _≤_};
-ghost use lib.ListN.{length};
-ghost use Rattle.journal.specs.Viewed.{Given};
+ghost use lib.ListN.{length, take, drop};
+ghost use Rattle.session_log.specs.Turns.{Within, Lines, Takes, Reads, Turned};
 
-// A journal, the indices between which the input stands that was read and not yet taken, whether that holds no whole field, and whether there is more to read and to write.
+// Where the program stands: whether there is more to do, whether it reads next or takes fields, the indices between which the bytes wait that were read and not yet taken,
+// the length of the lines of the last run, and the journal.
 struct Turn {
     more: bool,
-    waits: bool,
+    reads: bool,
     from: usize,
     to: usize,
+    length: usize,
     journal: Journal,
 }
 
-// Writes lines; where they cannot be written it says so.
-fn write_lines(lines: &[u8]) -> bool {
+// Hands all bytes that wait to a run. It reads next where the run gave no line: then no whole field waits.
+fn take_fields(t: Turn, input: &[u8], lines: &mut [u8]) -> Turn
+    requires { ⌜ Within t (now input) × (23040 ≤ length (now lines)) ⌝ }
+    ensures { λ r. ⌜ Takes t (now (input .entry)) (now (lines .entry)) r (now (lines .exit)) ⌝ }
+{
+    let journal = t.journal;
+    let from = t.from;
+    let to = t.to;
+    let logged = run(journal, &input[from..to], lines);
+    let next = logged.journal;
+    Turn {
+        more: !has_ended(next),
+        reads: logged.length == 0,
+        from: from + logged.used,
+        to,
+        length: logged.length,
+        journal: next,
+    }
+}
+
+// Writes the lines of the fields that were taken between two turns, which the contract asks for; where they cannot be written it says so.
+fn write_lines(t: Turn, next: Turn, input: &[u8], lines: &[u8]) -> bool
+    requires { ⌜ Lines t next (now input) (now lines) ⌝ }
+{
     let written = io::write_all(STDOUT_FILENO, lines);
     if !written {
         os::fail(b"session_log");
@@ -28,31 +53,22 @@ fn write_lines(lines: &[u8]) -> bool {
     written
 }
 
-// Takes the fields that are there and writes their lines; after lines that cannot be written there is no more to do.
+// Takes the fields that wait and writes their lines; after lines that cannot be written there is no more to do.
 fn log_fields(t: Turn, input: &[u8], lines: &mut [u8]) -> Turn
-    requires { ⌜ Given (t .journal) × (t .from ≤ t .to) × (t .to ≤ length (now input)) ⌝ }
-    ensures { λ r. ⌜ Given (r .journal) × (r .from ≤ r .to) × (r .to ≤ length (now (input .entry))) ⌝ }
+    requires { ⌜ Within t (now input) × (23040 ≤ length (now lines)) ⌝ }
+    ensures { λ r. ⌜ Takes t (now (input .entry)) (now (lines .entry)) r (now (lines .exit)) ⌝ }
 {
-    let j = t.journal;
-    let from = t.from;
-    let to = t.to;
-    let logged = run(j, &input[from..to], lines);
-    let used = logged.used;
-    let n = logged.length;
-    let next = logged.journal;
-    let written = write_lines(&lines[0..n]);
-    Turn {
-        more: written & !has_ended(next),
-        waits: used == 0,
-        from: from + used,
-        to,
-        journal: next,
-    }
+    let mut next = take_fields(t, input, lines);
+    let n = next.length;
+    let written = write_lines(t, next, input, &lines[0..n]);
+    next.more = written & next.more;
+    next
 }
 
-// Moves so many bytes from an index to the start.
+// Moves so many bytes from an index to the start; the bytes past them stay.
 fn move_to_start(input: &mut [u8], from: usize, n: usize)
     requires { ⌜ from + n ≤ length (now input) ⌝ }
+    ensures { λ _. ⌜ now (input .exit) ≡ take n (drop from (now (input .entry))) ++ drop n (now (input .entry)) ⌝ }
 {
     let mut i = 0;
     while i < n {
@@ -61,32 +77,33 @@ fn move_to_start(input: &mut [u8], from: usize, n: usize)
     }
 }
 
-// Moves what is left to the start and reads once behind it; input that ends, or cannot be read, is the end.
+// Moves what waits to the start and reads once behind it; input that ends, or cannot be read, is the end.
 fn read_more(t: Turn, input: &mut [u8]) -> Turn
-    requires { ⌜ Given (t .journal) × (t .from ≤ t .to) × (t .to ≤ length (now input)) ⌝ }
-    ensures { λ r. ⌜ Given (r .journal) × (r .from ≤ r .to) × (r .to ≤ length (now (input .entry))) ⌝ }
+    requires { ⌜ Within t (now input) ⌝ }
+    ensures { λ r. ⌜ Reads t (now (input .entry)) r (now (input .exit)) ⌝ }
 {
     let left = t.to - t.from;
     move_to_start(input, t.from, left);
     let end = input.len();
-    let got = libc::read(STDIN_FILENO, &mut input[left..end]);
-    let n = io::count(got, &input[left..end]);
+    let answer = libc::read(STDIN_FILENO, &mut input[left..end]);
+    let n = io::count(answer, &input[left..end]);
     let journal = t.journal;
     Turn {
         more: 0 < n,
-        waits: false,
+        reads: false,
         from: 0,
         to: left + n,
+        length: 0,
         journal,
     }
 }
 
-// Logs what is there, or reads more where that holds no whole field.
+// Reads, or takes the fields that wait.
 fn next_turn(t: Turn, input: &mut [u8], lines: &mut [u8]) -> Turn
-    requires { ⌜ Given (t .journal) × (t .from ≤ t .to) × (t .to ≤ length (now input)) ⌝ }
-    ensures { λ r. ⌜ Given (r .journal) × (r .from ≤ r .to) × (r .to ≤ length (now (input .entry))) ⌝ }
+    requires { ⌜ Within t (now input) × (23040 ≤ length (now lines)) ⌝ }
+    ensures { λ r. ⌜ Turned t (now (input .entry)) (now (lines .entry)) r (now (input .exit)) (now (lines .exit)) ⌝ }
 {
-    if t.waits {
+    if t.reads {
         read_more(t, input)
     } else {
         log_fields(t, input, lines)
@@ -94,12 +111,15 @@ fn next_turn(t: Turn, input: &mut [u8], lines: &mut [u8]) -> Turn
 }
 
 // A proved loop has to end, and nothing says that an input does: so the turns are counted down from a number that no run uses up.
-fn log_all(input: &mut [u8], lines: &mut [u8]) {
+fn log_all(input: &mut [u8], lines: &mut [u8])
+    requires { ⌜ 23040 ≤ length (now lines) ⌝ }
+{
     let mut now = Turn {
         more: true,
-        waits: true,
+        reads: true,
         from: 0,
         to: 0,
+        length: 0,
         journal: start(),
     };
     let mut turns = u64::MAX;

@@ -7,13 +7,14 @@ use borrow.Author.Tests.{ltb-true}
 use lib.Dec.{ltb}
 use lib.ListN.{length}
 use Rattle.laws.proofs.Tests.{and-left}
-use Rattle.journal.specs.Viewed.{Given}
+use Rattle.session_log.specs.Turns.{Within}
+use Rattle.session_log.proofs.Turns.{still-within}
 use Rattle.session_log.proofs.log_all.Statement.{statement}
 use Rattle.session_log.proofs.log_all.Tie as tie
 
 abbrev Inv-loop : tie.InvT-loop
 Inv-loop input₀ lines₀ now₀ turns₀ input lines now turns =
-    (length input ≡ length input₀) × (length lines ≡ length lines₀) × Given (now .journal) × (now .from ≤ now .to) × (now .to ≤ length input)
+    (length input ≡ length input₀) × (length lines ≡ length lines₀) × Within now input × (23040 ≤ length lines)
 
 abbrev μ-loop : tie.MeasureT-loop
 μ-loop input₀ lines₀ now₀ turns₀ input lines now turns = turns
@@ -22,10 +23,10 @@ start-requires : tie.Need-start-requires Inv-loop μ-loop
 start-requires c κs = search needs
 
 loop-holds : tie.Need-loop-holds Inv-loop μ-loop
-loop-holds c = (refl, refl, c .start .ensures .1, omega arith, omega arith)
+loop-holds c = (refl, refl, record { given = c .start .ensures .1; ordered = omega arith; inside = omega arith }, omega arith)
 
 next-turn-requires : tie.Need-next-turn-requires Inv-loop μ-loop
-next-turn-requires c κs = let h = c .before .before .before .before .loop .inv in (h .2, h .3, h .4)
+next-turn-requires c κs = let h = c .before .before .before .before .loop .inv in (h .2, h .3)
 
 -- a turn is left
 some : (c : tie.Then1 Inv-loop μ-loop) → 0 < c .before .before .loop .turns
@@ -38,7 +39,7 @@ loop-less : tie.Need-loop-less Inv-loop μ-loop
 loop-less c = omega (arith, some (c .before .before .before .before .before .before .before))
 
 loop-again : tie.Need-loop-again Inv-loop μ-loop
-loop-again c = let h = c .before .before .before .before .next-turn .ensures in (omega arith, omega arith, h .0, h .1, omega (arith, h .2))
+loop-again c = (omega arith, omega arith, still-within (c .before .before .before .before .next-turn .ensures), omega arith)
 
 same-length : tie.Need-same-length Inv-loop μ-loop
 same-length c = omega arith

@@ -1,0 +1,117 @@
+-- The bytes that wait after a turn, and the log of turns one after another. Assumes nothing.
+use mathlib.Core.Path.{_≡_, refl, sym, ap, ap₂, subst, subst₂, _∙_}
+use mathlib.Core.Bool.{Bool, true, false, not, _&&_, and-true}
+use mathlib.Core.List.{List, [], _∷_, _++_, append-assoc, append-nil}
+use Prim.Native.Nat.{ℕ, zero, suc, _+_, _-_, _≤_}
+use native.Mathlib.Nat.{min-le-right, sub-zero, zero-sub, suc-sub-suc}
+use native.Mathlib.Omega.{arith}
+use borrow.Author.Tests.{le-leb, eqb-true}
+use lib.Dec.{leb, eqb}
+use lib.ListN.{length, take, drop, take-append-drop, length-take, length-drop}
+use lib.Seq.{drop-drop, take-take, take-nil, take-at, length-take-le}
+use Rattle.log.specs.Steps.{Log, holdsField, logFrom}
+use Rattle.journal.specs.Runs.{Runs, Logs, RunsAll, no-more, and-next}
+use Rattle.journal.specs.declared.Logged.{Logged}
+use Rattle.journal.specs.Viewed.{viewed}
+use Rattle.journal.proofs.Whole.{written-first, log-of-runs}
+use Rattle.session_log.specs.declared.Turn.{Turn}
+use Rattle.session_log.specs.Turns as turns
+use Rattle.session_log.specs.Turns.{waiting, Within, Lines, Takes, Reads, Turned, TurnsAll, LogOfTurns}
+
+-- what is left of a part of the buffer is a part of the buffer
+drop-take : (u n : ℕ) (l : List ℕ) → drop u (take n l) ≡ take (n - u) (drop u l)
+drop-take zero n l = ap (λ (k : ℕ). take k l) (sym (sub-zero n))
+drop-take (suc u) zero l = ap (λ (k : ℕ). take k (drop (suc u) l)) (sym (zero-sub (suc u)))
+drop-take (suc u) (suc n) [] = sym (take-nil (suc n - suc u))
+drop-take (suc u) (suc n) (x ∷ l) = drop-take u n l ∙ ap (λ (k : ℕ). take k (drop u l)) (sym (suc-sub-suc n u))
+
+pub left-waits : (from to used : ℕ) (input : List ℕ) → drop used (take (to - from) (drop from input)) ≡ take (to - (from + used)) (drop (from + used) input)
+left-waits from to used input =
+    let e : to - from - used ≡ to - (from + used) = omega arith in
+    drop-take used (to - from) (drop from input) ∙ ap₂ (λ (k : ℕ) (l : List ℕ). take k l) e (drop-drop used from input)
+
+-- a run that gave no line into a space with room left no whole field
+pub none-whole : (h e : Bool) (room n : ℕ) → (h && e && leb 23040 (room - n)) ≡ false → 23040 ≤ room → n ≡ 0 → (h && e) ≡ false
+none-whole h e room n p r z =
+    let m : 23040 ≤ room - n = omega (arith, r, z) in
+    sym (and-true (h && e)) ∙ ap (λ (b : Bool). (h && e) && b) (sym (le-leb 23040 (room - n) m)) ∙ p
+
+-- what waited, and stands at the start of the buffer, is the start of what waits after a read
+pub kept-first : (w after : List ℕ) (left n : ℕ) → length w ≡ left → take left after ≡ w → take (left + n - 0) (drop 0 after) ≡ w ++ drop (length w) (take (left + n - 0) (drop 0 after))
+kept-first w after left n l p =
+    let now = take (left + n - 0) after in
+    let q : take left now ≡ w = take-take left (left + n - 0) after (omega arith) ∙ p in
+    sym (take-append-drop left now) ∙ ap₂ (λ (x : List ℕ) (k : ℕ). x ++ drop k now) q (sym l)
+
+-- as many bytes wait as stand between the indices
+waiting-length : {t : Turn} {input : List ℕ} → Within t input → length (waiting t input) ≡ t .to - t .from
+waiting-length {t} {input} w =
+    let inside = w .inside in
+    let fits : t .to - t .from ≤ length (drop (t .from) input) = rw (length-drop (t .from) input) (omega (arith, inside)) in
+    length-take-le (t .to - t .from) (drop (t .from) input) fits
+
+-- the turn after a run over all that waited
+pub taken-by : (t : Turn) (input space after : List ℕ) (l : Logged) (more : Bool) → Within t input → 23040 ≤ length space → Logs (viewed (t .journal)) (waiting t input) space l after → Takes t input space (record { more = more; reads = eqb (l .length) 0; from = t .from + l .used; to = t .to; length = l .length; journal = l .journal }) after
+taken-by t input space after l more w room k =
+    let left = left-waits (t .from) (t .to) (l .used) input in
+    let n = waiting-length w in
+    let within = k .within in
+    let ordered = w .ordered in
+    record {
+      runs = subst (λ (x : List ℕ). Runs (viewed (t .journal)) (waiting t input) space (viewed (l .journal)) x after (l .length)) left (k .runs);
+      room = k .room;
+      within = record { given = k .given; ordered = omega (arith, n, within, ordered); inside = w .inside };
+      all = λ h.
+          none-whole (holdsField (waiting (record { more = more; reads = eqb (l .length) 0; from = t .from + l .used; to = t .to; length = l .length; journal = l .journal }) input)) (not (l .journal .ended)) (length space) (l .length)
+          (subst (λ (x : List ℕ). (holdsField x && not (l .journal .ended) && leb 23040 (length space - l .length)) ≡ false) left (k .all))
+          room
+          (eqb-true (l .length) 0 h);
+    }
+
+-- the turn after a read behind what waited, which was moved to the start of the buffer
+pub read-behind : (t : Turn) (input moved after : List ℕ) (n : ℕ) (more : Bool) → Within t input → moved ≡ waiting t input ++ drop (t .to - t .from) input → take (t .to - t .from) after ≡ take (t .to - t .from) moved → t .to - t .from + n ≤ length after → Reads t input (record { more = more; reads = false; from = 0; to = t .to - t .from + n; length = 0; journal = t .journal }) after
+read-behind t input moved after n more w e p inside =
+    let left = t .to - t .from in
+    let l = waiting-length w in
+    let first : take left after ≡ waiting t input = p ∙ ap (take left) e ∙ take-at (waiting t input) (drop left input) left l in
+    record {
+      kept = kept-first (waiting t input) after left n l first;
+      journal-kept = refl;
+      within = record { given = w .given; ordered = omega arith; inside = inside };
+      takes-next = refl;
+    }
+
+-- bytes counted in the rest of the buffer end within it
+pub counted-within : (n left k : ℕ) (after : List ℕ) → left ≤ length after → n ≤ length (take k (drop left after)) → left + n ≤ length after
+counted-within n left k after h m =
+    let short : length (take k (drop left after)) ≤ length (drop left after) = rw (length-take k (drop left after)) (min-le-right k (length (drop left after))) in
+    let rest = length-drop left after in
+    omega (arith, short, rest)
+
+-- after a turn the indices lie in the buffer again
+pub still-within : {t r : Turn} {input space after lines : List ℕ} → Turned t input space r after lines → Within r after
+still-within {t} {r} {input} {space} {after} {lines} k = go (t .reads) refl
+  where
+    go : (b : Bool) → t .reads ≡ b → Within r after
+    go true e = k .read e .within
+    go false e = subst (Within r) (sym (k .taken e .0)) (k .taken e .1 .within)
+
+-- the lines of a run are the first bytes of its space
+pub lines-written : {t r : Turn} {input space after : List ℕ} → Takes t input space r after → Lines t r input (take (r .length) after)
+lines-written {t} {r} {input} {space} {after} k rest =
+    k .runs .log rest
+    ∙ ap (λ (x : List ℕ). x ++ logFrom (viewed (r .journal)) (waiting r input ++ rest)) (sym (written-first space (k .runs .text) after (r .length) (k .runs .wrote)))
+
+-- turns are runs over what waited and what was read after it
+runs-of : {t : Turn} {input read text : List ℕ} → TurnsAll t input read text → RunsAll (viewed (t .journal)) (waiting t input ++ read) text
+runs-of {t} {input} (turns.no-more h) = subst (λ (s : List ℕ). RunsAll (viewed (t .journal)) s []) (sym (append-nil (waiting t input))) (no-more h)
+runs-of {t} {input} (turns.and-reads {r = r} {after = after} {read = read} {text = text} k more) =
+    subst₂ (λ (l : Log) (s : List ℕ). RunsAll l s text)
+    (ap viewed (k .journal-kept))
+    (ap (λ (s : List ℕ). s ++ read) (k .kept) ∙ append-assoc (waiting t input) (turns.got t input r after) read)
+    (runs-of more)
+runs-of (turns.and-takes {read = read} k more) = and-next read (k .runs) (runs-of more)
+
+pub log-of-turns : LogOfTurns
+log-of-turns t input read text j none k =
+    log-of-runs read text (subst₂ (λ (l : Log) (s : List ℕ). RunsAll l s text) j (ap (λ (s : List ℕ). s ++ read) none) (runs-of k))

@@ -1,0 +1,76 @@
+-- What the turns of the program promise: the bytes that were read go to the runs in order, none twice and none lost, and the lines of the runs to the write. Assumes nothing.
+use mathlib.Core.Path.{_≡_}
+use mathlib.Core.Bool.{true, false, not, _&&_}
+use mathlib.Core.List.{List, [], _++_}
+use Prim.Native.Nat.{ℕ, _-_, _≤_}
+use lib.ListN.{length, take, drop}
+use Rattle.log.specs.Steps.{Log, holdsField, logFrom, logOf}
+use Rattle.log.specs.Steps as log
+use Rattle.journal.specs.Runs.{Runs}
+use Rattle.journal.specs.Viewed.{viewed, Given}
+use Rattle.session_log.specs.declared.Turn.{Turn}
+
+-- the bytes that were read and not yet taken: they stand in the buffer between two indices
+abbrev pub waiting : Turn → List ℕ → List ℕ
+waiting t input = take (t .to - t .from) (drop (t .from) input)
+
+-- a turn whose indices lie in the buffer, with a journal that a run gave
+pub record Within (t : Turn) (input : List ℕ) : Type 0 where
+  pub given : Given (t .journal)
+  pub ordered : t .from ≤ t .to
+  pub inside : t .to ≤ length input
+
+-- a text is the lines of the fields that were taken between two turns: the log from the first turn on is the text and then the log from the second on, whatever follows
+abbrev pub Lines : Turn → Turn → List ℕ → List ℕ → Type 0
+Lines t r input text =
+    (rest : List ℕ) → logFrom (viewed (t .journal)) (waiting t input ++ rest) ≡ text ++ logFrom (viewed (r .journal)) (waiting r input ++ rest)
+
+-- no whole field waits, or the log has ended
+abbrev pub NoneWhole : Turn → List ℕ → Type 0
+NoneWhole t input = (holdsField (waiting t input) && not (viewed (t .journal) .ended)) ≡ false
+
+-- a turn that takes fields: all that waits was handed to one run, what it left waits where it stands, and its lines are the first bytes of the space
+pub record Takes (t : Turn) (input space : List ℕ) (r : Turn) (after : List ℕ) : Type 0 where
+  pub runs : Runs (viewed (t .journal)) (waiting t input) space (viewed (r .journal)) (waiting r input) after (r .length)
+  pub room : r .length ≤ length space
+  pub within : Within r input
+  pub all : r .reads ≡ true → NoneWhole r input
+
+-- a turn that reads: what waited stands at the start of the buffer, and behind it what was read
+pub record Reads (t : Turn) (input : List ℕ) (r : Turn) (after : List ℕ) : Type 0 where
+  pub kept : waiting r after ≡ waiting t input ++ drop (length (waiting t input)) (waiting r after)
+  pub journal-kept : r .journal ≡ t .journal
+  pub within : Within r after
+  pub takes-next : r .reads ≡ false
+
+-- a turn reads or takes fields, as the last one said
+pub record Turned (t : Turn) (input space : List ℕ) (r : Turn) (input₂ after : List ℕ) : Type 0 where
+  pub read : t .reads ≡ true → Reads t input r input₂
+  pub taken : t .reads ≡ false → (input₂ ≡ input) × Takes t input space r after
+
+-- the bytes that a turn read
+abbrev pub got : Turn → List ℕ → Turn → List ℕ → List ℕ
+got t input r after = drop (length (waiting t input)) (waiting r after)
+
+-- turns one after another: the bytes that they read, joined, and the lines that they handed to the write, joined
+pub data TurnsAll : Turn → List ℕ → List ℕ → List ℕ → Type 0 where
+  no-more : {t : Turn} {input : List ℕ} → NoneWhole t input → TurnsAll t input [] []
+  and-reads :
+      {t r : Turn} {input after read text : List ℕ}
+      → Reads t input r after
+      → TurnsAll r after read text
+      → TurnsAll t input (got t input r after ++ read) text
+  and-takes :
+      {t r : Turn} {input space after read text : List ℕ}
+      → Takes t input space r after
+      → TurnsAll r input read text
+      → TurnsAll t input read (take (r .length) after ++ text)
+
+-- from the first turn on, the lines handed to the write are document 01's log of the bytes read
+abbrev pub LogOfTurns : Type 0
+LogOfTurns =
+    (t : Turn) (input read text : List ℕ)
+    → viewed (t .journal) ≡ log.start
+    → waiting t input ≡ []
+    → TurnsAll t input read text
+    → text ≡ logOf read
