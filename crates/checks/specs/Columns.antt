@@ -1,18 +1,22 @@
 -- The two groups in which the code collects errors: of the fields before the places, and of the ten places that it holds in columns. Assumes nothing.
-use mathlib.Core.Bool.{not, cond}
+use mathlib.Core.Path.{_≡_}
+use mathlib.Core.Bool.{Bool, not, cond}
 use mathlib.Core.List.{List, [], _∷_, _++_}
-use Prim.Native.Nat.{ℕ}
+use Prim.Native.Nat.{ℕ, _≤_}
+use lib.Dec.{eqb}
 use Rattle.texts.specs.Texts.{ascii, sameText}
-use Rattle.digits.specs.Decimal.{isNumber}
+use Rattle.digits.specs.Decimal.{isNumber, numberIn}
 use Rattle.places.specs.Bids.{allFormed}
 use Rattle.places.specs.declared.Places.{Places}
 use Rattle.envelope.specs.declared.application.Field.the-variants.{MessageType, Recipient, Identifier}
 use Rattle.envelope.specs.declared.application.Fields.{Fields}
 use Rattle.envelope.specs.Application.{bytesOf}
 use Rattle.rules.specs.Opening as rules
-use Rattle.rules.specs.Opening.{isTime}
-use Rattle.rules.specs.Receiving.{Reception, Error, when, senderErrors, dateErrors, bidErrors}
+use Rattle.rules.specs.Opening.{isTime, any}
+use Rattle.rules.specs.Receiving.{Reception, Error, when, senderErrors, dateErrors, bidErrors, errors}
 use Rattle.bids.specs.Columns.{bidsFrom}
+use Rattle.errors.specs.declared.Errors.{Errors}
+use Rattle.errors.specs.Listed.{listed}
 use Rattle.terms.specs.declared.Terms.{Terms}
 use Rattle.terms.specs.Viewed.{viewed}
 
@@ -35,3 +39,16 @@ headErrors t m f =
 -- a message received at a date and time, with space for a reply
 abbrev pub receptionOf : List ℕ → ℕ → ℕ → List ℕ → Reception
 receptionOf m day second space = record { message = m; date = day; time = second; space = space }
+
+-- whether the sender is one of the codes was asked before
+abbrev pub Admits : List ℕ → Fields → Bool → Type 0
+Admits codes f admitted = admitted ≡ any (eqb (numberIn (f .sender))) codes
+
+-- the errors of the fields before the places, whatever the codes are of which the sender is one or is not; at most eight
+abbrev pub HeadErrors : Terms → List ℕ → Fields → Bool → Errors → Type 0
+HeadErrors t m f admitted e = ((codes : List ℕ) → Admits codes f admitted → listed e ≡ headErrors (viewed t codes) m f) × (e .n ≤ 8)
+
+-- all errors of a message received on a day and at a second, in the same way; at most fifteen
+abbrev pub AllErrors : Terms → List ℕ → Fields → Bool → ℕ → ℕ → Errors → Type 0
+AllErrors t m f admitted day second e =
+    ((codes space : List ℕ) → Admits codes f admitted → listed e ≡ errors (viewed t codes) (receptionOf m day second space)) × (e .n ≤ 15)

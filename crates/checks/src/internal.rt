@@ -34,11 +34,11 @@ ghost use Rattle.places.specs.Bids.{allFormed};
 ghost use Rattle.envelope.specs.declared.application.Field.the-variants.{MessageType, Recipient, Identifier};
 ghost use Rattle.envelope.specs.Application.{layout6G1, bytesOf, fieldsOf};
 ghost use Rattle.rules.specs.Opening.{any};
-ghost use Rattle.rules.specs.Receiving.{senderErrors, dateErrors, bidErrors, errors};
+ghost use Rattle.rules.specs.Receiving.{senderErrors, dateErrors, bidErrors};
 ghost use Rattle.bids.specs.Columns.{bidsFrom};
 ghost use Rattle.errors.specs.Listed.{listed};
 ghost use Rattle.terms.specs.Viewed.{viewed};
-ghost use Rattle.checks.specs.Columns.{columnErrors, headErrors, receptionOf};
+ghost use Rattle.checks.specs.Columns.{columnErrors, HeadErrors, AllErrors};
 
 // Whether the type is another than 6G1.
 fn other_type(m: &[u8]) -> bool
@@ -133,7 +133,7 @@ pub fn place_errors(e: Errors, t: Terms, p: Places) -> Errors
 // The errors of the fields before the places, 900 to 303.
 fn field_errors(m: &[u8], t: Terms, f: Fields, admitted: bool) -> Errors
     requires { ⌜ readable layout6G1 (now m) ≡ true ⌝ }
-    ensures { λ r. ⌜ ((codes : List ℕ) → admitted ≡ any (eqb (numberIn (f .sender))) codes → listed r ≡ headErrors (viewed t codes) (now (m .entry)) f) × (r .n ≤ 8) ⌝ }
+    ensures { λ r. ⌜ HeadErrors t (now (m .entry)) f admitted r ⌝ }
 {
     let sender = f.sender;
     let cro = f.cro;
@@ -155,7 +155,7 @@ fn field_errors(m: &[u8], t: Terms, f: Fields, admitted: bool) -> Errors
 pub fn errors_of(m: &[u8], t: Terms, f: Fields, admitted: bool, day: u64, second: u64) -> Errors
     requires { ⌜ readable layout6G1 (now m) ≡ true ⌝ }
     requires { ⌜ f ≡ fieldsOf (now m) ⌝ }
-    ensures { λ r. ⌜ ((codes space : List ℕ) → admitted ≡ any (eqb (numberIn (f .sender))) codes → listed r ≡ errors (viewed t codes) (receptionOf (now (m .entry)) day second space)) × (r .n ≤ 15) ⌝ }
+    ensures { λ r. ⌜ AllErrors t (now (m .entry)) f admitted day second r ⌝ }
 {
     let p = f.places;
     let head = field_errors(m, t, f, admitted);

@@ -14,8 +14,7 @@ use replies::internal::put_returned;
 use terms::Terms;
 ghost use mathlib.Core.Path.{_≡_};
 ghost use mathlib.Core.Bool.{true, _&&_};
-ghost use mathlib.Core.List.{List};
-ghost use Prim.Native.Nat.{ℕ, _≤_, _<_};
+ghost use Prim.Native.Nat.{_≤_, _<_};
 ghost use lib.ListN.{length, take};
 ghost use Rattle.calendar.specs.Calendar.{validDate, validTime};
 ghost use Rattle.layout.specs.Fields.{readable};
@@ -24,12 +23,8 @@ ghost use Rattle.envelope.specs.Application.{layout6G1, fieldsOf};
 ghost use Rattle.rules.specs.Opening.{rising};
 ghost use Rattle.rules.specs.Calls.{reply};
 ghost use Rattle.errors.specs.Listed.{listed};
-ghost use Rattle.terms.specs.Viewed as terms;
-ghost use Rattle.bids.specs.Columns.{bidsFrom};
-ghost use Rattle.book.specs.declared.Book.{Book};
-ghost use Rattle.book.specs.Viewed.{upTo64, viewed, codesIn, Lends, Full};
-ghost use Rattle.checks.specs.Columns.{receptionOf};
-ghost use Rattle.reception.specs.Submission.{afterJudged, submitted};
+ghost use Rattle.book.specs.Viewed.{upTo64, Full};
+ghost use Rattle.reception.specs.Submission.{Judges};
 
 // The errors of a readable message with the fields f, received on a day and at a second, and where a book with these codes, times and flags holds it if it has none.
 pub fn judge<'a>(
@@ -48,7 +43,7 @@ pub fn judge<'a>(
     requires { ⌜ (validDate day && validTime second) ≡ true ⌝ }
     requires { ⌜ Full (now codes) (now held) (now has) ⌝ }
     requires { ⌜ rising (take (upTo64 n) (now codes)) ≡ true ⌝ }
-    ensures { λ r. ⌜ ((b : Book) (space : List ℕ) → Lends b n (now (codes .entry)) (now (held .entry)) (now (has .entry)) → (listed (r .errors), afterJudged (viewed b) r (bidsFrom (f .places .rates) (f .places .amounts) 0 10)) ≡ submitted (terms.viewed t (codesIn (viewed b))) (viewed b) (receptionOf (now (m .entry)) day second space)) × (r .errors .n ≤ 16) × (r .at < 64) ⌝ }
+    ensures { λ r. ⌜ Judges t n (now (codes .entry)) (now (held .entry)) (now (has .entry)) (now (m .entry)) (f .places) day second r ⌝ }
 {
     let sender = f.sender;
     let code = number_of(sender);

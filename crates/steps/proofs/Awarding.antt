@@ -20,7 +20,7 @@ use Rattle.tender.specs.declared.Tender.{Tender}
 use Rattle.tender.specs.declared.internal.AllotAnswer.{AllotAnswer}
 use Rattle.tender.specs.Viewed as tender
 use Rattle.tender.specs.Viewed.{isSome, refusalNumber}
-use Rattle.tender.specs.Calls.{awardedTo, AllotsBids}
+use Rattle.tender.specs.Parts.{awardedTo, AllotsBids}
 use Rattle.tender.proofs.Conditions.{none-of}
 use Rattle.log.specs.Lines.{refusedLine, awardLine, placeLines, awardLines}
 use Rattle.log.specs.Steps.{awardsLine, allotted}

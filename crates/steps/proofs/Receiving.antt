@@ -21,7 +21,7 @@ use Rattle.tender.specs.declared.internal.Accepted.{Accepted}
 use Rattle.tender.specs.declared.internal.Outcome.{Outcome}
 use Rattle.tender.specs.Viewed as tender
 use Rattle.tender.specs.Viewed.{refusalNumber, answerIn, isHeld, leftBy}
-use Rattle.tender.specs.Calls.{Left, ComesTo}
+use Rattle.tender.specs.Parts.{Left, ComesTo}
 use Rattle.steps.specs.declared.Change.the-variants as change
 use Rattle.steps.specs.declared.Taken.{Taken}
 use Rattle.steps.specs.Parts.{Parts, tenderIn, viewed, Given, holding, Takes}

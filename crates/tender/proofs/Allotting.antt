@@ -24,7 +24,8 @@ use Rattle.tender.specs.declared.Tender.{Tender}
 use Rattle.tender.specs.declared.Changed.{Changed}
 use Rattle.tender.specs.declared.internal.AllotAnswer.{AllotAnswer}
 use Rattle.tender.specs.Viewed.{viewed, Given, refusalNumber, isSome}
-use Rattle.tender.specs.Calls.{notClosed, awardedTo, Changes, AllotsBids, Allots}
+use Rattle.tender.specs.Calls.{Changes, Allots}
+use Rattle.tender.specs.Parts.{notClosed, awardedTo, AllotsBids}
 use Rattle.tender.proofs.Conditions.{refused-first, refused-later, kept-old}
 
 module _ (t : Tender) (space : List ℕ) (r : AllotAnswer) where

@@ -31,7 +31,8 @@ use Rattle.tender.specs.declared.Refusal.the-variants as refusal
 use Rattle.tender.specs.declared.Tender.{Tender}
 use Rattle.tender.specs.declared.Received.{Received}
 use Rattle.tender.specs.Viewed.{viewed, Given, refusalNumber, isSome, answerIn, answerOf, errorsIn, replyLength, unlessConfirmed}
-use Rattle.tender.specs.Calls.{answeredBy, Receives}
+use Rattle.tender.specs.Calls.{Receives}
+use Rattle.tender.specs.Parts.{answeredBy}
 
 -- refused: no errors, no reply, the tender and the space as they were
 module _ (t : Tender) (g : Given t) (x : Reception) (r : Received)

@@ -10,7 +10,7 @@ use Rattle.envelope.specs.Refusals.{firstHolding, unlessRefused}
 use Rattle.rules.specs.Calls.{Tender, isRevoked, isOver, clockInvalid}
 use Rattle.rules.proofs.ArrivalOrder.{next-condition}
 use Rattle.tender.specs.Viewed.{isSome}
-use Rattle.tender.specs.Calls.{notOpen}
+use Rattle.tender.specs.Parts.{notOpen}
 
 first-some : (xs ys : List (ℕ × Bool)) → isSome (firstHolding xs) ≡ true → firstHolding (xs ++ ys) ≡ firstHolding xs
 unfolding firstHolding

@@ -14,7 +14,7 @@ use Rattle.tender.specs.declared.Refusal.{Refusal}
 use Rattle.tender.specs.declared.Tender.{Tender}
 use Rattle.tender.specs.declared.internal.Outcome.{Outcome}
 use Rattle.tender.specs.Viewed.{viewed, refusalNumber, isSome}
-use Rattle.tender.specs.Calls.{Left, ComesTo}
+use Rattle.tender.specs.Parts.{Left, ComesTo}
 
 module _ (t : Tender) (m : List ℕ) (date time room : ℕ) (o : Outcome) where
   pub comes-refused : (f : Refusal) → o .refusal ≡ f → o .errors .n ≡ 0 → o .accepted .at ≡ 0 → isSome (refusalNumber f) ≡ true

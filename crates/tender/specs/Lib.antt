@@ -1,3 +1,4 @@
 pub mod Viewed
 pub mod Calls
+pub mod Parts
 pub mod ArrivalOrder

@@ -1,4 +1,5 @@
-// The calls on a tender that comes in its parts, so that whoever changes its book in place makes no copy: what a reception comes to, and why the other calls are refused.
+// The calls on a tender that comes in its parts, so that whoever changes its book in place makes no copy: what a reception comes to, and why
+// the other calls are refused.
 use crate::Refusal;
 use crate::State;
 use crate::Tender;
@@ -21,26 +22,24 @@ use reception::internal::judge;
 use terms::Terms;
 ghost use mathlib.Core.Path.{_≡_};
 ghost use mathlib.Core.Bool.{true, false, _&&_};
-ghost use mathlib.Core.List.{List, [], _∷_};
+ghost use mathlib.Core.List.{[], _∷_};
 ghost use mathlib.Core.Option.{none};
-ghost use Prim.Native.Nat.{ℕ, _≤_, _<_};
+ghost use Prim.Native.Nat.{_≤_, _<_};
 ghost use lib.ListN.{length, take};
 ghost use Rattle.envelope.specs.Refusals.{firstHolding};
 ghost use Rattle.calendar.specs.Calendar.{validDate, validTime};
 ghost use Rattle.layout.specs.Fields.{readable};
 ghost use Rattle.envelope.specs.Application.{layout6G1, fieldsOf};
 ghost use Rattle.rules.specs.Opening.{rising};
-ghost use Rattle.rules.specs.Calls.{closingRefused, revokingRefused, bidsInBook};
-ghost use Rattle.bids.specs.Columns.{bidsOf};
+ghost use Rattle.rules.specs.Calls.{closingRefused, revokingRefused};
 ghost use Rattle.terms.specs.declared.Terms.{Terms};
 ghost use Rattle.book.specs.declared.Book.{Book};
 ghost use Rattle.book.specs.Viewed as entries;
-ghost use Rattle.book.specs.Viewed.{upTo64, Lends, Full};
-ghost use Rattle.checks.specs.Columns.{receptionOf};
+ghost use Rattle.book.specs.Viewed.{upTo64, Full};
 ghost use Rattle.tender.specs.declared.State.{State};
 ghost use Rattle.tender.specs.Viewed.{viewed, refusalNumber, tenderOf, isHeld, entriesAfter};
 ghost use Rattle.tender.specs.declared.Tender.{Tender};
-ghost use Rattle.tender.specs.Calls.{notClosed, Left, ComesTo, AllotsBids};
+ghost use Rattle.tender.specs.Parts.{notClosed, LeftInAny, ComesToInAny, AllotsAny};
 
 // What is accepted of a message: where its code stands, its reference time and its ten places.
 pub struct Accepted {
@@ -106,7 +105,7 @@ fn judged<'a>(
     requires { ⌜ readable layout6G1 (now m) ≡ true ⌝ }
     requires { ⌜ f ≡ fieldsOf (now m) ⌝ }
     requires { ⌜ (validDate date && validTime time) ≡ true ⌝ }
-    ensures { λ r. ⌜ (refusalNumber (r .refusal) ≡ none) × (r .errors .n ≤ 16) × (r .accepted .at < 64) × ((b : Book) → Lends b n (now (codes .entry)) (now (held .entry)) (now (has .entry)) → (s : State) (space : List ℕ) → Left (tenderOf s terms b) (receptionOf (now (m .entry)) date time space) r) ⌝ }
+    ensures { λ r. ⌜ LeftInAny terms n (now (codes .entry)) (now (held .entry)) (now (has .entry)) (now (m .entry)) date time r ⌝ }
 {
     let j = judge(m, f, terms, n, codes, held, has, date, time);
     let errors = j.errors;
@@ -126,7 +125,8 @@ fn judged<'a>(
     }
 }
 
-// What the reception of a message comes to, with so much room for the reply, where a book has these codes, times and flags: they are lent, for an index into a book by value copies it.
+// What the reception of a message comes to, with so much room for the reply, where a book has these codes, times and flags. They are lent, since
+// an index into a book by value copies the book.
 pub fn outcome_of<'a>(
     state: State,
     terms: Terms,
@@ -141,7 +141,7 @@ pub fn outcome_of<'a>(
 ) -> Outcome
     requires { ⌜ Full (now codes) (now held) (now has) ⌝ }
     requires { ⌜ rising (take (upTo64 n) (now codes)) ≡ true ⌝ }
-    ensures { λ r. ⌜ ((b : Book) → Lends b n (now (codes .entry)) (now (held .entry)) (now (has .entry)) → ComesTo (tenderOf state terms b) (now (m .entry)) date time room r) ⌝ }
+    ensures { λ r. ⌜ ComesToInAny state terms n (now (codes .entry)) (now (held .entry)) (now (has .entry)) (now (m .entry)) date time room r ⌝ }
 {
     let first = not_open(state, date, time);
     if is_refused(first) {
@@ -224,7 +224,7 @@ pub fn allot_bids(
     awards: &mut [u64],
 ) -> AllotAnswer
     requires { ⌜ (length (now rates) ≡ length (now amounts)) × (length (now awards) ≡ length (now amounts)) × (length (now amounts) ≤ 640) ⌝ }
-    ensures { λ r. ⌜ ((book : Book) → bidsOf (now (rates .entry)) (now (amounts .entry)) ≡ bidsInBook (entries.viewed book) → AllotsBids (tenderOf state terms book) (now (awards .entry)) r (now (awards .exit))) ⌝ }
+    ensures { λ r. ⌜ AllotsAny state terms (now (rates .entry)) (now (amounts .entry)) (now (awards .entry)) r (now (awards .exit)) ⌝ }
 {
     let first = not_closed(state);
     if is_refused(first) {

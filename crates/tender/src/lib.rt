@@ -22,14 +22,14 @@ use terms::Terms;
 use terms::is_opened;
 ghost use mathlib.Core.Path.{_≡_};
 ghost use mathlib.Core.List.{[], _∷_};
-ghost use Rattle.envelope.specs.Refusals.{firstHolding, unlessRefused, orZero};
-ghost use Rattle.rules.specs.Calls.{clockInvalid, inState, receive, close, revoke};
+ghost use Rattle.envelope.specs.Refusals.{firstHolding, orZero};
+ghost use Rattle.rules.specs.Calls.{clockInvalid, receive, close, revoke};
 ghost use Rattle.errors.specs.Listed.{listed};
 ghost use Rattle.checks.specs.Columns.{receptionOf};
 ghost use Rattle.tender.specs.declared.Tender.{Tender};
-ghost use Rattle.tender.specs.declared.State.the-variants as state;
 ghost use Rattle.tender.specs.Viewed.{stateOf, viewed, Given, refusalNumber, isSome, inStateOf};
-ghost use Rattle.tender.specs.Calls.{notOpen, Opens, Receives, Changes, Allots};
+ghost use Rattle.tender.specs.Calls.{Opens, Receives, Changes, Allots};
+ghost use Rattle.tender.specs.Parts.{notOpen, changedUnless};
 
 pub enum State {
     Open,
@@ -199,7 +199,7 @@ fn unreceived(t: Tender, refusal: Refusal) -> Received
 // The tender in another state, unless the call is refused.
 fn in_state_unless(t: Tender, refusal: Refusal, state: State) -> Changed
     requires { ⌜ Given t ⌝ }
-    ensures { λ r. ⌜ (r .refusal ≡ refusal) × Changes t (refusalNumber refusal, unlessRefused (refusalNumber refusal) (viewed t) (inState (stateOf state) (viewed t))) r ⌝ }
+    ensures { λ r. ⌜ (r .refusal ≡ refusal) × Changes t (changedUnless (refusalNumber refusal) (stateOf state) (viewed t)) r ⌝ }
 {
     if is_refused(refusal) {
         return Changed { refusal, tender: t };

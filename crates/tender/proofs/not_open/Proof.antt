@@ -5,7 +5,7 @@ use Rattle.envelope.specs.Refusals.{firstHolding}
 use Rattle.rules.specs.Calls.{isRevoked, isOver}
 use Rattle.tender.specs.declared.State.{State}
 use Rattle.tender.specs.Viewed.{viewed, inStateOf}
-use Rattle.tender.specs.Calls.{notOpen}
+use Rattle.tender.specs.Parts.{notOpen}
 use Rattle.tender.proofs.not_open.Statement.{statement}
 use Rattle.tender.proofs.not_open.Tie as tie
 

@@ -22,7 +22,8 @@ use Rattle.tender.specs.declared.Refusal.the-variants as refusal
 use Rattle.tender.specs.declared.Received.{Received}
 use Rattle.tender.specs.declared.internal.Outcome.{Outcome}
 use Rattle.tender.specs.Viewed.{viewed, refusalNumber, isSome, tenderOf, isHeld}
-use Rattle.tender.specs.Calls.{ComesTo, Receives}
+use Rattle.tender.specs.Calls.{Receives}
+use Rattle.tender.specs.Parts.{ComesTo}
 use Rattle.tender.proofs.Conditions.{none-of}
 use Rattle.tender.proofs.Answering.{receives-refused, receives-answered}
 use Rattle.tender.proofs.Tender.receive.Statement.{statement}

@@ -6,7 +6,7 @@ use Rattle.tender.specs.declared.State.{State}
 use Rattle.tender.specs.declared.State.the-variants as state
 use Rattle.tender.specs.declared.Tender.{Tender}
 use Rattle.tender.specs.Viewed.{viewed, inStateOf}
-use Rattle.tender.specs.Calls.{notClosed}
+use Rattle.tender.specs.Parts.{notClosed}
 use borrow.Author.Needs.{needs}
 use Rattle.tender.proofs.internal.not_closed.Statement.{statement}
 use Rattle.tender.proofs.internal.not_closed.Tie as tie
