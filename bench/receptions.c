@@ -1,5 +1,8 @@
-// Measures one application of document 01's worked session, received and accepted by its tender. The
-// session is read from the file that the first argument names. With --check it only compares the reply.
+// Measures receptions by one tender, each by the tender that the reception before it gave, so that the
+// book is kept from one to the next. The announcement is that of document 01's worked session, and the
+// applications are its first one with other senders, times and amounts; the session is read from the
+// file that the first argument names. With --check it only compares what the tender holds after
+// receptions, and the last reply.
 #define _POSIX_C_SOURCE 200809L
 #include <stdbool.h>
 #include <stddef.h>
@@ -9,12 +12,16 @@
 #include <string.h>
 #include <time.h>
 
-enum { HEAD = 3, CLOCK = 14, ANNOUNCEMENT = 0xA1, RECEPTION = 0xA2, CONFIRMATION = 59, RUNS = 25, TURNS = 20000 };
+enum { HEAD = 3, CLOCK = 14, ANNOUNCEMENT = 0xA1, RECEPTION = 0xA2, CONFIRMATION = 59, SPACE = 418 };
+enum { RUNS = 200, RECEPTIONS = 2000, COMPARED = 200, FEW_CODES = 3, MOST_CODES = 64, FIRST_CODE = 90001 };
+
+// The bytes of an application, and where three of its numbers stand in it.
+enum { APPLICATION = 339, SENDER = 9, TIME = 50, AMOUNT = 90 };
 
 // The export of crate measured_receptions.
 uint64_t measured_receptions(const uint8_t *announcement, size_t announcement_length, const uint32_t *codes,
-    size_t codes_length, const uint8_t *message, size_t message_length, uint64_t date, uint64_t time,
-    uint64_t turns, uint8_t *space, size_t space_length);
+    size_t codes_length, const uint8_t *messages, size_t messages_length, uint64_t date, uint64_t time,
+    uint8_t *space, size_t space_length);
 
 struct part {
     const uint8_t *bytes;
@@ -23,6 +30,7 @@ struct part {
 
 static uint8_t session[1 << 16];
 static size_t session_length;
+static uint8_t applications[RECEPTIONS][APPLICATION];
 
 static void fail(const char *what)
 {
@@ -55,22 +63,71 @@ static struct part first_field(uint8_t tag)
     return (struct part){0};
 }
 
-static uint64_t receive(struct part announcement, struct part reception, uint64_t turns, uint8_t space[418])
+static void put_digits(uint8_t *bytes, size_t width, uint64_t number)
 {
-    static const uint32_t codes[] = {90001, 90002, 90003};
-    return measured_receptions(announcement.bytes, announcement.length, codes, 3, reception.bytes + CLOCK,
-        reception.length - CLOCK, 12032012, 103000, turns, space, 418);
+    while (width-- > 0) {
+        bytes[width] = (uint8_t)('0' + number % 10);
+        number /= 10;
+    }
 }
 
-static void compare(struct part announcement, struct part reception)
+// What the application at an index bids: no two bid the same.
+static uint64_t amount_at(size_t k)
 {
-    uint8_t space[418];
-    memset(space, 0xEE, sizeof space);
-    if (receive(announcement, reception, 1, space) != CONFIRMATION || memcmp(space + HEAD, "6G2", 3) != 0)
-        fail("the application is not confirmed");
-    if (space[CONFIRMATION] != 0xEE || space[417] != 0xEE)
-        fail("a byte past the confirmation was written");
-    puts("the application is confirmed, and the bytes past the confirmation stay");
+    return 10000 * (k + 1);
+}
+
+// The counterparties apply in turn, each time a second later.
+static void compose(size_t codes)
+{
+    struct part reception = first_field(RECEPTION);
+    if (reception.length != CLOCK + APPLICATION)
+        fail("the first reception of the session has no application");
+    for (size_t k = 0; k < RECEPTIONS; k++) {
+        memcpy(applications[k], reception.bytes + CLOCK, APPLICATION);
+        put_digits(applications[k] + SENDER, 5, FIRST_CODE + k % codes);
+        put_digits(applications[k] + TIME, 6, k / 3600 * 10000 + k / 60 % 60 * 100 + k % 60);
+        put_digits(applications[k] + AMOUNT, 15, amount_at(k));
+    }
+}
+
+// The eurocents that a tender for so many codes holds after the first applications.
+static uint64_t receive(size_t codes, size_t receptions, uint8_t space[SPACE])
+{
+    struct part announcement = first_field(ANNOUNCEMENT);
+    uint32_t admitted[MOST_CODES];
+    for (size_t c = 0; c < codes; c++)
+        admitted[c] = (uint32_t)(FIRST_CODE + c);
+    return measured_receptions(announcement.bytes, announcement.length, admitted, codes, applications[0],
+        receptions * APPLICATION, 12032012, 103000, space, SPACE);
+}
+
+// The same by counting: the last application of each counterparty is the one that is held.
+static uint64_t expected(size_t codes, size_t receptions)
+{
+    uint64_t sum = 0;
+    size_t from = receptions < codes ? 0 : receptions - codes;
+    for (size_t k = from; k < receptions; k++)
+        sum += amount_at(k);
+    return sum;
+}
+
+// After each reception, so that one that was not accepted is seen.
+static void compare(size_t codes)
+{
+    compose(codes);
+    for (size_t n = 1; n <= COMPARED; n++) {
+        uint8_t space[SPACE];
+        memset(space, 0xEE, sizeof space);
+        if (receive(codes, n, space) != expected(codes, n))
+            fail("the tender does not hold the last application of each counterparty");
+        if (memcmp(space + HEAD, "6G2", 3) != 0)
+            fail("the application is not confirmed");
+        if (space[CONFIRMATION] != 0xEE || space[SPACE - 1] != 0xEE)
+            fail("a byte past the confirmation was written");
+    }
+    printf("%d receptions, %zu codes: each is confirmed and held, and the bytes past a confirmation stay\n",
+        COMPARED, codes);
 }
 
 static double now(void)
@@ -80,17 +137,18 @@ static double now(void)
     return (double)t.tv_sec * 1e9 + (double)t.tv_nsec;
 }
 
-static void measure(struct part announcement, struct part reception)
+static void measure(size_t codes)
 {
-    uint8_t space[418];
+    uint8_t space[SPACE];
     double least = 1e18;
+    compose(codes);
     for (int run = 0; run < RUNS; run++) {
         double start = now();
-        receive(announcement, reception, TURNS, space);
-        double each = (now() - start) / TURNS;
+        receive(codes, RECEPTIONS, space);
+        double each = (now() - start) / RECEPTIONS;
         least = each < least ? each : least;
     }
-    printf("an application received and confirmed %10.2f ns\n", least);
+    printf("an application received and held, %2zu codes %10.2f ns\n", codes, least);
 }
 
 int main(int argc, char **argv)
@@ -101,9 +159,11 @@ int main(int argc, char **argv)
         return 2;
     }
     read_session(argv[1]);
-    struct part announcement = first_field(ANNOUNCEMENT), reception = first_field(RECEPTION);
-    compare(announcement, reception);
-    if (!only_compare)
-        measure(announcement, reception);
+    compare(FEW_CODES);
+    compare(MOST_CODES);
+    if (!only_compare) {
+        measure(FEW_CODES);
+        measure(MOST_CODES);
+    }
     return 0;
 }
