@@ -21,12 +21,12 @@ fn open(announcement: &[u8]) -> Tender
 }
 
 // Receives a message on the tender's day. The first bytes of the reply, as many as are printed, go back to the sender.
-fn receive(t: Tender, message: [u8; 339], time: u64) -> Tender
+fn receive(t: Tender, message: &[u8], time: u64) -> Tender
     requires { ⌜ Given t ⌝ }
     ensures { λ r. ⌜ Given r ⌝ }
 {
     let mut reply = [0u8; 418];
-    let received = t.receive(&message, 12032012, time, &mut reply);
+    let received = t.receive(message, 12032012, time, &mut reply);
     printing::text(b"receive at");
     printing::number(time);
     lines::received(received);
@@ -60,7 +60,7 @@ fn allot(t: Tender)
 }
 
 fn main() {
-    // A field of the announcement to a line: its tag, its length and what it holds.
+    // One field of the announcement on each line: its tag, its length and what it holds.
     let announcement = b"\x01\x00\x036G0\
         \x04\x00\x0501000\
         \x05\x00\x0590001\
@@ -74,10 +74,10 @@ fn main() {
         \x74\x00\x0815032012\
         \x75\x00\x06110000";
     let t = open(announcement);
-    let t = receive(t, application(90002, 102900, 150000, 60000), 103000);
-    let t = receive(t, application(90001, 103100, 120000, 50000), 103101);
-    let t = receive(t, application(90003, 103400, 120000, 40000), 103500);
-    let t = receive(t, application(90002, 102000, 150000, 60000), 104000);
+    let t = receive(t, &application(90002, 102900, 150000, 60000), 103000);
+    let t = receive(t, &application(90001, 103100, 120000, 50000), 103101);
+    let t = receive(t, &application(90003, 103400, 120000, 40000), 103500);
+    let t = receive(t, &application(90002, 102000, 150000, 60000), 104000);
     let t = close(t, 110000);
     let t = close(t, 110001);
     allot(t);
