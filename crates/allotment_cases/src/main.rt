@@ -14,6 +14,7 @@ fn main() {
     many::full_books();
     sharing::met();
     sharing::cents();
+    sharing::whole_shares();
     rates::limit();
     rates::ends();
     most::sums();

@@ -32,3 +32,18 @@ pub fn cents() {
     case(b"behind a better bid", Side::Lp, 100000, 50001, six);
     case(b"one counterparty", Side::La, 200000, 33334, own);
 }
+
+// Shares of two thirds and of a third, some of them whole: the cents that are left go by book order, whether a share is whole or not.
+pub fn whole_shares() {
+    let first = Bids::none()
+        .bid(0, 120000, 30000)
+        .bid(10, 120000, 20000)
+        .bid(20, 120000, 10000);
+    let second = Bids::none()
+        .bid(0, 120000, 20000)
+        .bid(1, 120000, 30000)
+        .bid(10, 120000, 20000)
+        .bid(20, 120000, 20000);
+    case(b"whole share first", Side::Lp, 100000, 40000, first);
+    case(b"whole share second", Side::La, 200000, 30000, second);
+}

@@ -112,6 +112,17 @@ fn parts() {
     case(b"most", 103, 57);
     case(b"limit", 186, 57);
     case(b"no date", 94, 57);
+    case(b"five decimals", 193, 49);
+    case(b"minimum allocation", 170, 57);
+}
+
+// Fields of digits that are no date and no time: D31, 601, spot date, forward date, cut-off.
+fn no_dates() {
+    case(b"D31", 39, 57);
+    case(b"601", 50, 57);
+    case(b"spot date", 197, 57);
+    case(b"forward date", 208, 57);
+    case(b"cut-off", 219, 57);
 }
 
 fn length(m: &[u8]) {
@@ -149,6 +160,7 @@ fn order() {
 fn main() {
     fields();
     parts();
+    no_dates();
     lengths();
     order();
 }

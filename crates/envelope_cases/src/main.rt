@@ -8,6 +8,7 @@ mod writing;
 
 fn main() {
     reading::valid();
+    reading::nines();
     reading::heads();
     reading::contents();
     reading::lengths();

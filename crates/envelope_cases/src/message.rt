@@ -21,6 +21,18 @@ pub fn bytes() -> [u8; 339] {
     m
 }
 
+// The message with every digit field of nines, which are no date and no time.
+pub fn of_nines() -> [u8; 339] {
+    let mut m = bytes();
+    put(&mut m, 9, b"99999");
+    put(&mut m, 17, b"99999");
+    put(&mut m, 25, b"99999999999");
+    put(&mut m, 39, b"99999999");
+    put(&mut m, 50, b"999999");
+    put(&mut m, 59, b"99999");
+    m
+}
+
 // Copies a text into the message from an index on.
 fn put(m: &mut [u8; 339], at: usize, text: &[u8])
     requires { ⌜ at + length (now text) ≤ 339 ⌝ }

@@ -6,7 +6,7 @@ use envelope::application::read;
 ghost use Prim.Native.Nat.{_<_};
 
 // The refusal of a message and its digit fields.
-fn numbers(m: &[u8]) {
+fn numbers(name: &[u8], m: &[u8]) {
     let f = read(m).fields;
     let sender = f.sender;
     let recipient = f.recipient;
@@ -14,7 +14,7 @@ fn numbers(m: &[u8]) {
     let date = f.date;
     let time = f.time;
     let check = f.check;
-    printing::text(b"valid");
+    printing::text(name);
     printing::number(message::refusal(m));
     printing::digits(sender);
     printing::digits(recipient);
@@ -37,8 +37,13 @@ fn texts(m: &[u8]) {
 // The valid message: its refusal, its digit fields and the bytes of its texts.
 pub fn valid() {
     let m = message::bytes();
-    numbers(&m);
+    numbers(b"valid", &m);
     texts(&m);
+}
+
+// Digits have their number, also those of a D31 that is no date and a 601 that is no time.
+pub fn nines() {
+    numbers(b"nines", &message::of_nines());
 }
 
 // A byte raised by one, and 255 made 0.

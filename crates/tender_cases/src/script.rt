@@ -31,6 +31,7 @@ fn altered(m: [u8; 339], line: &[u8]) -> [u8; 339] {
     match initial(line) {
         b'M' => first(),
         b'F' => with(m, index(line), rest(line, 6)),
+        b'B' => with(m, 324, b"               "),
         _ => m,
     }
 }
