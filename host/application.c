@@ -158,6 +158,19 @@ static void without_numbers(const struct buffers *b)
     }
 }
 
+// Digits that are no date and no time read as their numbers.
+static void no_date(const struct buffers *b)
+{
+    struct optes_application expected = valid();
+    uint8_t m[MESSAGE_BYTES];
+    memcpy(m, message, MESSAGE_BYTES);
+    memset(m + 39, '9', 8);
+    memset(m + 50, '9', 6);
+    expected.date = 99999999;
+    expected.time = 999999;
+    reads_as(b, m, &expected);
+}
+
 // Every length but 339, and each tag and length byte raised by one.
 static void unreadables(const struct buffers *b)
 {
@@ -215,6 +228,7 @@ void application_cases(const struct buffers *b)
     read_then_written(b);
     written_then_read(b);
     without_numbers(b);
+    no_date(b);
     unreadables(b);
     other_flags(b);
     refusals(b);

@@ -2,8 +2,10 @@
 #include <string.h>
 
 #include "cases.h"
+#include "check.h"
 #include "expect.h"
 #include "message.h"
+#include "optes.h"
 
 // Digit field k with a byte that is no digit at each position in turn; the other five keep their
 // numbers, and the ten places theirs.
@@ -25,6 +27,19 @@ static void digit_fields(const struct buffers *b)
     for (size_t k = 0; k < DIGIT_FIELDS; k++)
         for (size_t i = 0; i < NO_DIGITS; i++)
             digit_field(b, k, no_digits[i]);
+}
+
+// A D31 and a 601 of nines are no date and no time, but digits: they have their numbers.
+static void no_date(const struct buffers *b)
+{
+    uint8_t *m = guarded_copy(&b->message, message, MESSAGE_BYTES);
+    memset(m + 39, '9', 8);
+    memset(m + 50, '9', 6);
+    expect_fields(m);
+    CHECK(optes_6g1_has_number(m, MESSAGE_BYTES, OPTES_6G1_DATE) == 1);
+    CHECK(optes_6g1_number(m, MESSAGE_BYTES, OPTES_6G1_DATE) == 99999999);
+    CHECK(optes_6g1_has_number(m, MESSAGE_BYTES, OPTES_6G1_TIME) == 1);
+    CHECK(optes_6g1_number(m, MESSAGE_BYTES, OPTES_6G1_TIME) == 999999);
 }
 
 // Place k with another byte at a position of its own; the other nine keep their numbers.
@@ -79,6 +94,7 @@ static void texts_of_digits(const struct buffers *b)
 void number_cases(const struct buffers *b)
 {
     digit_fields(b);
+    no_date(b);
     malformed_places(b);
     several_places(b);
     texts_of_digits(b);
