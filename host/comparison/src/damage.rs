@@ -82,7 +82,12 @@ pub fn change_length(random: &mut Random, bytes: &mut Vec<u8>) {
 /// Appends a step whose form ends the log, or is close to it.
 pub fn push_odd_step(random: &mut Random, session: &mut Vec<u8>) {
     let tag = random.pick(&[0x00, 0x01, 0x98, 0x9f, 0xa0, 0xa1, 0xa2, 0xa3, 0xa4, 0xa5, 0xa6]);
-    let length = random.pick(&[0, 1, 4, 5, 6, 10, 13, 14, 15, 224, 225, 226, 353]);
+    let length = match tag {
+        0xa0 => random.pick(&[1, 4, 5, 6, 10, 14]),
+        0xa1 => random.pick(&[0, 224, 225, 226]),
+        0xa2 | 0xa3 => random.pick(&[0, 13, 14, 15, 353]),
+        _ => random.pick(&[0, 1, 14]),
+    };
     let contents = vec![random.pick(b"0129/x"); length];
     envelope::push_field(session, tag, &contents);
 }

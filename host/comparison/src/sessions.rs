@@ -5,6 +5,8 @@ pub mod days;
 pub mod generate;
 pub mod plan;
 pub mod program;
+#[cfg(test)]
+mod rare;
 pub mod spoil;
 pub mod tally;
 
@@ -14,6 +16,7 @@ pub const DEFAULT_COUNT: u64 = 2000;
 
 #[cfg(test)]
 mod tests {
+    use super::rare::Drawn;
     use super::tally::Tally;
     use super::*;
     use independent::session;
@@ -26,6 +29,16 @@ mod tests {
         }
         assert_eq!(tally.missing(), [""; 0]);
         assert!(tally.of("C") > 10_000 && tally.of("W") > 5_000, "{}", tally.text());
+    }
+
+    #[test]
+    fn the_sessions_draw_what_is_rare() {
+        let mut drawn = Drawn::default();
+        for seed in DEFAULT_SEED..DEFAULT_SEED + DEFAULT_COUNT {
+            drawn.count(&generate::session(seed));
+        }
+        assert_eq!(drawn.counts.len(), 15, "each kind was looked for");
+        assert!(drawn.counts.values().all(|&count| count >= 50), "{:?}", drawn.counts);
     }
 
     #[test]

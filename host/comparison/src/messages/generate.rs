@@ -59,10 +59,10 @@ impl Parts {
             numbers: WIDTHS.map(|width| number(random, width)),
             kind: if random.one_in(2) { b"6G1".to_vec() } else { any_bytes(random, 3) },
             identifier,
-            name: if random.one_in(2) {
-                b"CONTACT NAME   ".to_vec()
-            } else {
-                any_bytes(random, 15)
+            name: match random.below(4) {
+                0 => vec![b' '; 15],
+                1 => b"CONTACT NAME   ".to_vec(),
+                _ => any_bytes(random, 15),
             },
         }
     }

@@ -4,9 +4,13 @@ use crate::damage::{damage, push_odd_step, put_near};
 use crate::random::Random;
 use crate::sessions::days::{day_after, day_before, seconds_away};
 use crate::sessions::plan::{plan, Plan, Planned};
-use crate::sessions::spoil::{disorder, spoil, spoil_parts, spoil_texts, RARE_DATES};
+use crate::sessions::spoil::{disorder, spoil, spoil_parts, spoil_places, spoil_texts, RARE_DATES};
 use independent::application::Draft;
 use independent::compose::{draft, written, Announcement, Session};
+
+/// Contact names: any bytes are one.
+const NAMES: [&[u8]; 4] =
+    [b"CONTACT NAME   ", b"               ", b"000000000000000", b"\0\n/\xff           "];
 
 /// The session with this seed.
 pub fn session(seed: u64) -> Vec<u8> {
@@ -14,6 +18,9 @@ pub fn session(seed: u64) -> Vec<u8> {
     let mut session = Session::new();
     if random.one_in(10) {
         push_event(random, &mut session, &Announcement::worked());
+    }
+    if random.one_in(40) {
+        push_odd_step(random, &mut session.bytes);
     }
     for _ in 0..=random.below(4) {
         push_tender(random, &mut session);
@@ -121,7 +128,7 @@ fn clock(random: &mut Random, announcement: &Announcement) -> (u64, u64) {
         14 => (random.pick(&RARE_DATES), cut_off),
         15 => (day, random.pick(&[240_000, 105_960, 106_000, 999_999])),
         16 => (0, 0),
-        17..=20 => (day, 0),
+        17..=20 => (day, random.pick(&[0, 0, 7, 3_000, 95_959])),
         _ => (day_before(day), random.pick(&[cut_off, 235_959, 0])),
     }
 }
@@ -132,6 +139,7 @@ fn push_reception(random: &mut Random, session: &mut Session, plan: &Plan, plann
         date: plan.announcement.execution,
         identifier: &plan.announcement.identifier,
         places: planned.places,
+        name: random.pick(&NAMES),
         ..draft(planned.code, planned.time, &[])
     };
     for _ in 0..random.pick(&[0, 0, 0, 0, 0, 0, 0, 0, 0, 1, 1, 2, 6]) {
@@ -142,6 +150,7 @@ fn push_reception(random: &mut Random, session: &mut Session, plan: &Plan, plann
         0 => damage(random, &mut message),
         1 => put_near(random, &mut message),
         2 => spoil_texts(random, &mut message),
+        3 => spoil_places(random, &mut message),
         _ => (),
     }
     session.receive(date, time, &message);

@@ -11,6 +11,8 @@ const MOST_RATE: u64 = 99_999_999;
 const SIDES: [Side; 2] = [Side::Collects, Side::Invests];
 const DATES: [u64; 8] =
     [12_032_012, 29_022_012, 28_022_011, 31_121_999, 1_012_000, 2_011_900, 29_129_999, 28_022_100];
+const IDENTIFIERS: [&[u8; 11]; 4] =
+    [b"T/2012/0001", b"T/0000/9999", b"T/1999/0001", b"T/9999/0000"];
 const EDGE_DATES: [u64; 3] = [1_011_900, 30_129_999, 31_129_999];
 const CUT_OFFS: [u64; 7] = [110_000, 105_959, 0, 1, 235_959, 235_958, 120_000];
 
@@ -33,8 +35,9 @@ pub fn plan(random: &mut Random) -> Plan {
     let edge = random.one_in(20);
     let execution = if edge { random.pick(&EDGE_DATES) } else { random.pick(&DATES) };
     let spot = if random.one_in(2) { execution } else { day_after(execution) };
+    let minimum = random.pick(&[1, 2, 10_000, 10_000, 10_000, 33_333_333_333_333, MOST_AMOUNT]);
     let mut announcement = Announcement {
-        identifier: *random.pick(&[b"T/2012/0001", b"T/0000/9999"]),
+        identifier: *random.pick(&IDENTIFIERS),
         side: random.pick(&SIDES),
         letter: random.pick(b"YN"),
         reference: if random.one_in(3) { day_before(execution) } else { execution },
@@ -43,9 +46,9 @@ pub fn plan(random: &mut Random) -> Plan {
         forward: day_after(spot),
         cut_off: random.pick(&CUT_OFFS),
         most_bids: random.pick(&[1, 2, 3, 9, 10, 10]),
-        minimum: random.pick(&[1, 2, 10_000, 10_000, 10_000, 33_333_333_333_333, MOST_AMOUNT]),
+        minimum,
         minimum_allocation: random.pick(&[0, 1, 20_000, MOST_AMOUNT]),
-        increment: random.pick(&[1, 3, 7_000, 10_000, 10_000, MOST_AMOUNT]),
+        increment: random.pick(&[1, 3, 7_000, 10_000, minimum, minimum, MOST_AMOUNT]),
         ..Announcement::worked()
     };
     let codes = codes(random);
@@ -104,20 +107,23 @@ fn amount(random: &mut Random, announcement: &Announcement) -> u64 {
     }
 }
 
-/// Sets the limit rate, the maximum and the amount offered near what the applications bid.
+/// Sets the limit rate, the maximum and the amount offered near what the applications bid. An amount
+/// offered that is a multiple of the minimum makes some of the shares whole.
 fn aim(random: &mut Random, announcement: &mut Announcement, applications: &[Planned]) {
-    let bids: Vec<_> = last_of_each(applications).iter().flat_map(|a| a.places).collect();
+    let places = last_of_each(applications).into_iter().flat_map(|a| a.places);
+    let bids: Vec<_> = places.filter(|&place| place != (0, 0)).collect();
     let Some(&(rate, _)) = bids.get(random.index(bids.len().max(1))) else { return };
     let side = announcement.side;
     let is_served = |other: u64| if side == Side::Collects { other <= rate } else { other >= rate };
     let total: u64 = bids.iter().filter(|bid| is_served(bid.0)).map(|bid| bid.1).sum();
+    let minimum = announcement.minimum;
     let offered = match random.below(8) {
         0 | 1 => total,
         2 => total + 1,
         3 => total.saturating_sub(1),
         4 => 1,
         5 => 1 + random.below(total + 1),
-        6 => total / 2,
+        6 => minimum * (1 + random.below(total / minimum + 1)),
         _ => MOST_AMOUNT,
     };
     announcement.offered = offered.clamp(1, MOST_AMOUNT);

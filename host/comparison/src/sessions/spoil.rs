@@ -38,20 +38,22 @@ pub fn spoil_parts(random: &mut Random, message: &mut [u8]) {
     }
 }
 
-/// Gives the application one of the errors that numbers can have.
+/// Gives the application one of the errors that numbers can have, or moves its bids.
 pub fn spoil(random: &mut Random, application: &mut Draft) {
     let place = random.index(PLACES);
-    match random.below(11) {
+    match random.below(12) {
         0 => application.kind = b"6G2",
         1 => application.sender = random.pick(&[0, 99_999, application.sender ^ 1]).min(99_999),
         2 => application.recipient = 1001,
         3 => application.date = day_after(application.date),
         4 => application.date = random.pick(&RARE_DATES),
         5 => application.time = random.pick(&[240_000, 105_960, 106_000]),
-        6 => application.identifier = b"T/2012/0002",
+        6 => application.identifier = random.pick(&[b"T/2012/0002", b"T/2013/0001"]),
         7 => application.places[place] = (0, 0),
         8 => application.places[place].0 ^= random.pick(&[1, 8, 4]),
         9 => application.places[place].1 ^= 1,
+        // A single bid comes to stand at the tenth place.
+        10 => application.places.rotate_left(1),
         _ => application.places[place].1 = MOST_AMOUNT,
     }
 }
@@ -62,5 +64,13 @@ pub fn spoil_texts(random: &mut Random, message: &mut [u8]) {
         if random.one_in(3) {
             put_near(random, &mut message[start..end]);
         }
+    }
+}
+
+/// Puts near bytes into places of an application, mostly into two of them.
+pub fn spoil_places(random: &mut Random, message: &mut [u8]) {
+    for _ in 0..random.pick(&[1, 2, 2, 10]) {
+        let start = 81 + 24 * random.index(PLACES);
+        put_near(random, &mut message[start..start + 24]);
     }
 }

@@ -1,0 +1,80 @@
+//! What is rare in a session and must be drawn all the same, for a book may be wrong just there.
+
+use independent::announcement::Terms;
+use independent::application::{Application, Field, PLACES};
+use independent::award::{Bid, Side};
+use independent::envelope::split_field;
+use independent::session::{ANNOUNCEMENT, RECEPTION};
+use std::collections::BTreeMap;
+
+/// How often each rare thing was drawn, and the terms that were announced last.
+#[derive(Default)]
+pub struct Drawn {
+    pub counts: BTreeMap<&'static str, u64>,
+    terms: Option<Terms>,
+}
+
+impl Drawn {
+    fn add(&mut self, what: &'static str, is_so: bool) {
+        *self.counts.entry(what).or_default() += u64::from(is_so);
+    }
+
+    /// Counts what a session's announcements and receptions draw.
+    pub fn count(&mut self, session: &[u8]) {
+        let mut rest = session;
+        while let Some((tag, contents, after)) = split_field(rest) {
+            match tag {
+                ANNOUNCEMENT => self.announced(contents),
+                RECEPTION if contents.len() >= 14 => self.received(contents.split_at(14)),
+                _ => (),
+            }
+            rest = after;
+        }
+    }
+
+    fn announced(&mut self, message: &[u8]) {
+        let Ok(terms) = Terms::read(message) else { return };
+        let (identifier_year, execution_year) = (&message[61..65], &message[98..102]);
+        self.add("identifier of the year 0000", identifier_year == b"0000");
+        self.add("identifier of another year", identifier_year != execution_year);
+        self.add("minimum above the amount offered", terms.minimum > terms.offer.amount);
+        self.add("minimum allocation", message[170..185] != *b"000000000000000");
+        let limit = terms.offer.limit.0;
+        let is_la = terms.offer.side == Side::Collects;
+        self.add("LA, limit rate of five decimals", is_la && limit % 1000 != 0);
+        self.add("LP, limit rate of five decimals", !is_la && limit % 1000 != 0);
+        self.add("LA, limit rate of zero", is_la && limit == 0);
+        self.add("LP, limit rate of zero", !is_la && limit == 0);
+        self.terms = Some(terms);
+    }
+
+    fn received(&mut self, (clock, message): (&[u8], &[u8])) {
+        let Ok(application) = Application::read(message) else { return };
+        let malformed = (0..PLACES).filter(|&place| application.place(place).is_none()).count();
+        self.add("two places malformed", malformed == 2);
+        let time = &clock[8..];
+        self.add("received before ten o'clock", time[0] == b'0' && time != b"000000");
+        self.add("blank contact name", application.field(Field::Name) == [b' '; 15]);
+        if let Some(bids) = application.places() {
+            let filled = bids.iter().filter(|bid| bid.is_filled()).count();
+            self.add("only the tenth place filled", filled == 1 && bids[9].is_filled());
+            self.totalled(&bids);
+        }
+    }
+
+    /// Counts totals that are above the maximum by some of the bids alone.
+    fn totalled(&mut self, bids: &[Bid; PLACES]) {
+        let Some(terms) = &self.terms else { return };
+        let Some(maximum) = terms.maximum else { return };
+        let total = |counts: &dyn Fn(&Bid) -> bool| -> u64 {
+            bids.iter().filter(|bid| counts(bid)).map(|bid| bid.amount.0).sum()
+        };
+        let above = total(&|_| true) > maximum.0;
+        let by_limit = above && total(&|bid| terms.offer.is_in(bid.rate)) <= maximum.0;
+        let by_rate = above && total(&|bid| bid.rate.0 % 1000 == 0) <= maximum.0;
+        let by_amount = above && total(&|bid| bid.amount >= terms.minimum) <= maximum.0;
+        self.add("above the maximum by a bid out of the limit rate", by_limit);
+        self.add("above the maximum by a fine rate", by_rate);
+        self.add("above the maximum by an amount below the minimum", by_amount);
+    }
+}
