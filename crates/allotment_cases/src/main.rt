@@ -16,6 +16,7 @@ fn main() {
     sharing::cents();
     sharing::whole_shares();
     rates::limit();
+    rates::fine_and_zero();
     rates::ends();
     most::sums();
 }

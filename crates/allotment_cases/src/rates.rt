@@ -17,6 +17,16 @@ pub fn limit() {
     case(b"all out LA", Side::La, 98000, 10000, b);
 }
 
+// Limit rates of five decimals and of zero, with a bid on each side or at it: the offer is met by both together, and not by one alone.
+pub fn fine_and_zero() {
+    let fine = Bids::none().bid(0, 100000, 10000).bid(10, 101000, 20000);
+    let zero = Bids::none().bid(0, 0, 10000).bid(10, 1000, 20000);
+    case(b"five decimals LP", Side::Lp, 100001, 25000, fine);
+    case(b"five decimals LA", Side::La, 100001, 25000, fine);
+    case(b"limit zero LP", Side::Lp, 0, 25000, zero);
+    case(b"limit zero LA", Side::La, 0, 25000, zero);
+}
+
 // Bids at rate zero between empty places, which are no bids and get no cent; then the widest rates of a place and of 32 bits.
 pub fn ends() {
     let zero = Bids::none()
