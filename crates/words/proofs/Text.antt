@@ -1,45 +1,41 @@
 -- Laws of digits written as the bytes of a word. Assumes nothing.
 use mathlib.Core.Path.{_≡_, refl, sym, ap, _∙_}
 use mathlib.Core.Bool.{true}
-use mathlib.Core.List.{List, [], _∷_, _++_, map, append-assoc, append-nil}
+use mathlib.Core.List.{List, [], _∷_, _++_, map}
 use Prim.Native.Nat.{ℕ, zero, suc, _+_, _*_, _-_, _/_, _%_, _≤_, _<_}
-use native.Mathlib.Numerals.{add-one}
+use native.Mathlib.Nat.{add-zero}
 use native.Mathlib.Omega.{arith}
 use lib.Dec.{leb}
-use lib.ListN.{length, take, drop, getD, set, replicate, length-map, length-set}
-use lib.Seq.{take-all, take-suc-set}
+use lib.ListN.{length, drop, getD, replicate, length-map}
+use lib.Seq.{drop-drop, getD-drop}
 use borrow.Author.Tests.{le-leb, leb-true}
 use Rattle.laws.proofs.Tests.{and-left, and-right}
 use Rattle.digits.specs.declared.Digits.the-variants.{Number}
 use Rattle.digits.specs.Decimal.{allDigits, numberFrom, digits}
 use Rattle.digits.proofs.Reading.{number-is}
 use Rattle.digits.proofs.Writing.{number-written, digits-rest, digits-split, zero-digit}
-use Rattle.words.specs.Words.{lowBytes, allSmall, decimal}
+use Rattle.words.specs.Words.{lowBytes, allSmall, decimal, HoldsDigits}
 use Rattle.words.proofs.Bytes.{wordOf}
 
--- the loop over the bytes: its start, one more byte, and the end
-pub all-bytes : (t : ℕ) (b : List ℕ) → take 0 b ++ lowBytes (length b - 0) t ≡ lowBytes (length b) t
-all-bytes t b =
-    let e : length b - 0 ≡ length b = omega arith in
-    ap (λ (k : ℕ). lowBytes k t) e
+-- the loop over the bytes of a word: the next byte, and those after it
+module _ (s : List ℕ) (i k t : ℕ) (h : i < k) (e : drop i s ≡ lowBytes (k - i) t) where
+  next-bytes : drop i s ≡ t % 256 ∷ lowBytes (k - (i + 1)) (t / 256)
+  unfolding lowBytes
+  next-bytes =
+      let n : k - i ≡ suc (k - (i + 1)) = omega arith in
+      e ∙ ap (λ (j : ℕ). lowBytes j t) n
 
-pub store-byte : (i t : ℕ) (b : List ℕ) → i < length b → take (i + 1) (set b i (t % 256)) ++ lowBytes (length (set b i (t % 256)) - (i + 1)) (t / 256) ≡ take i b ++ lowBytes (length b - i) t
-unfolding lowBytes
-store-byte i t b h =
-    let e : length b - i ≡ suc (length b - suc i) = omega arith in
-    rw (add-one, length-set, take-suc-set b i (t % 256) h, e) (append-assoc (take i b) (t % 256 ∷ []) (lowBytes (length b - suc i) (t / 256)))
+  pub byte-at : getD s i 0 ≡ t % 256
+  byte-at = sym (getD-drop i s 0 0 ∙ ap (λ (j : ℕ). getD s j 0) (add-zero i)) ∙ ap (λ (l : List ℕ). getD l 0 0) next-bytes
 
-pub no-bytes : (i t : ℕ) (b : List ℕ) → length b ≤ i → b ≡ take i b ++ lowBytes (length b - i) t
-unfolding lowBytes
-no-bytes i t b h =
-    let z : length b - i ≡ 0 = omega arith in
-    rw (z, take-all i b h) (sym (append-nil b))
+  pub bytes-after : drop (i + 1) s ≡ lowBytes (k - (i + 1)) (t / 256)
+  bytes-after = sym (drop-drop 1 i s) ∙ ap (drop 1) next-bytes
 
 -- numbers 0 to 9 as digits
 abbrev up : ℕ → ℕ
 up d = d + 48
 
-length-bytes : (k t : ℕ) → length (lowBytes k t) ≡ k
+pub length-bytes : (k t : ℕ) → length (lowBytes k t) ≡ k
 unfolding lowBytes
 length-bytes zero t = refl
 length-bytes (suc k) t = ap suc (length-bytes k (t / 256))
@@ -79,25 +75,25 @@ slash-first t s e =
     rw (x, y) (ap (λ (l : List ℕ). 47 ∷ drop 1 l) e)
 
 -- the text of a word that holds a number's eight digits
-module _ (t n : ℕ) (h : allSmall (lowBytes 8 t) ≡ true) (e : decimal 0 (lowBytes 8 t) ≡ n) where
-  word-text : lowBytes 8 (t + 3472328296227680304) ≡ digits 8 n
+module _ (t n : ℕ) (h : HoldsDigits n t) where
+  word-text : lowBytes 8 (t + 0x3030303030303030) ≡ digits 8 n
   unfolding wordOf
   word-text =
       let s = map up (lowBytes 8 t) in
-      bytes-up 8 t h ∙ sym (number-written 8 n s (length-map (lowBytes 8 t) up ∙ length-bytes 8 t) (number-is s (digits-up (lowBytes 8 t) h) ∙ ap Number (number-up 0 (lowBytes 8 t) ∙ e)))
+      bytes-up 8 t (h .small)
+      ∙ sym (number-written 8 n s (length-map (lowBytes 8 t) up ∙ length-bytes 8 t) (number-is s (digits-up (lowBytes 8 t) (h .small)) ∙ ap Number (number-up 0 (lowBytes 8 t) ∙ h .number)))
 
-  slash-text : n < 10000000 → lowBytes 8 (t + 3472328296227680303) ≡ 47 ∷ digits 7 n
+  slash-text : n < 10000000 → lowBytes 8 (t + 0x303030303030302F) ≡ 47 ∷ digits 7 n
   slash-text l =
-      let c : t + 3472328296227680303 + 1 ≡ t + 3472328296227680304 = omega arith in
-      slash-first (t + 3472328296227680303) (digits 7 n) (ap (lowBytes 8) c ∙ word-text ∙ zero-digit 7 n l)
+      let c : t + 0x303030303030302F + 1 ≡ t + 0x3030303030303030 = omega arith in
+      slash-first (t + 0x303030303030302F) (digits 7 n) (ap (lowBytes 8) c ∙ word-text ∙ zero-digit 7 n l)
 
 -- the same of the rest of any number
-module _ (t n : ℕ) (h : allSmall (lowBytes 8 t) ≡ true) where
-  pub eight-text : decimal 0 (lowBytes 8 t) ≡ n % 100000000 → lowBytes 8 (t + 3472328296227680304) ≡ digits 8 n
-  eight-text e = word-text t (n % 100000000) h e ∙ digits-rest 8 n
+pub eight-text : (t n : ℕ) → HoldsDigits (n % 100000000) t → lowBytes 8 (t + 0x3030303030303030) ≡ digits 8 n
+eight-text t n h = word-text t (n % 100000000) h ∙ digits-rest 8 n
 
-  pub seven-text : decimal 0 (lowBytes 8 t) ≡ n % 10000000 → lowBytes 8 (t + 3472328296227680303) ≡ 47 ∷ digits 7 n
-  seven-text e = slash-text t (n % 10000000) h e (omega arith) ∙ ap (λ (l : List ℕ). 47 ∷ l) (digits-rest 7 n)
+pub seven-text : (t n : ℕ) → HoldsDigits (n % 10000000) t → lowBytes 8 (t + 0x303030303030302F) ≡ 47 ∷ digits 7 n
+seven-text t n h = slash-text t (n % 10000000) h (omega arith) ∙ ap (λ (l : List ℕ). 47 ∷ l) (digits-rest 7 n)
 
 -- digits of a width, and the last eight of them
 pub last-eight : (w n : ℕ) → 8 ≤ w → digits (w - 8) (n / 100000000) ++ digits 8 (n % 100000000) ≡ digits w n

@@ -2,7 +2,7 @@
 use mathlib.Core.Path.{_≡_}
 use mathlib.Core.Bool.{Bool, true, _&&_}
 use mathlib.Core.List.{List, [], _∷_}
-use Prim.Native.Nat.{ℕ, zero, suc, _+_, _*_, _/_, _%_}
+use Prim.Native.Nat.{ℕ, zero, suc, _+_, _*_, _/_, _%_, _≤_}
 use lib.Dec.{leb, eqb}
 use lib.ListN.{drop, getD}
 use Rattle.digits.specs.Decimal.{allDigits, numberOf}
@@ -21,6 +21,12 @@ allSmall (d ∷ s) = leb d 9 && allSmall s
 unfoldable pub decimal : ℕ → List ℕ → ℕ
 decimal n [] = n
 decimal n (d ∷ s) = decimal (n * 10 + d) s
+
+-- the bytes of a word are 0 to 9, so that none of them carries when a digit's code is added to each, and make a number
+pub record HoldsDigits (n t : ℕ) : Type 0 where
+  pub small : allSmall (lowBytes 8 t) ≡ true
+  pub number : decimal 0 (lowBytes 8 t) ≡ n
+  pub most : t ≤ 0x0909090909090909
 
 -- the bytes of a word are 0 to 9 just where eight bytes are digits, and make their number then
 pub record Lowered (s : List ℕ) (t : ℕ) : Type 0 where

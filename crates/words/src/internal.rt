@@ -10,7 +10,7 @@ ghost use Prim.Native.Nat.{ℕ, _+_, _-_, _%_, _<_, _≤_};
 ghost use lib.ListN.{length, take, drop};
 ghost use Rattle.output.specs.Output.{Wrote};
 ghost use Rattle.digits.specs.Decimal.{digitsOf, digits};
-ghost use Rattle.words.specs.Words.{lowBytes, allSmall, decimal, Lowered, AfterSlash};
+ghost use Rattle.words.specs.Words.{lowBytes, allSmall, decimal, HoldsDigits, Lowered, AfterSlash};
 
 // Four bytes as half a word, the first lowest.
 fn four_bytes(s: &[u8]) -> u64
@@ -137,28 +137,35 @@ fn rest(n: u64, m: u64) -> u64
     if n < m { n } else { n % m }
 }
 
-// Writes the bytes of a word over the whole of a part, the lowest first.
-fn fill(part: &mut [u8], t: u64)
-    ensures { λ _. ⌜ now (part .exit) ≡ lowBytes (length (now (part .entry))) t ⌝ }
+// The word whose bytes are the eight digits of the rest of n by m.
+fn digits_of_rest(n: u64, m: u64) -> u64
+    requires { ⌜ (0 < m) × (m ≤ 100000000) ⌝ }
+    ensures { λ r. ⌜ HoldsDigits (n % m) r ⌝ }
+{
+    parted(rest(n, m))
+}
+
+// Writes the eight bytes of a word from an index on, the lowest first, and answers the index past them.
+fn put_word(space: &mut [u8], at: usize, t: u64) -> usize
+    requires { ⌜ at + 8 ≤ length (now space) ⌝ }
+    ensures { λ r. ⌜ Wrote (now (space .entry)) at (lowBytes 8 t) (now (space .exit)) r × (r ≡ at + 8) ⌝ }
 {
     let mut i = 0;
     let mut left = t;
-    while i < part.len() {
-        part[i] = (left % 256) as u8;
+    while i < 8 {
+        space[at + i] = (left % 256) as u8;
         left = left / 256;
         i += 1;
     }
+    at + i
 }
 
-// Writes the last eight digits of n from an index on and answers the index past them.
+// Writes the last eight digits of n.
 pub fn put_eight(space: &mut [u8], at: usize, n: u64) -> usize
     requires { ⌜ at + 8 ≤ length (now space) ⌝ }
     ensures { λ r. ⌜ Wrote (now (space .entry)) at (digits 8 n) (now (space .exit)) r × (r ≡ at + 8) ⌝ }
 {
-    let end = at + 8;
-    let t = parted(rest(n, 100000000)) + 0x3030303030303030;
-    fill(&mut space[at..end], t);
-    end
+    put_word(space, at, digits_of_rest(n, 100000000) + 0x3030303030303030)
 }
 
 // Writes a slash and the last seven digits of n.
@@ -166,10 +173,7 @@ pub fn put_seven(space: &mut [u8], at: usize, n: u64) -> usize
     requires { ⌜ at + 8 ≤ length (now space) ⌝ }
     ensures { λ r. ⌜ Wrote (now (space .entry)) at (47 ∷ digits 7 n) (now (space .exit)) r × (r ≡ at + 8) ⌝ }
 {
-    let end = at + 8;
-    let t = parted(rest(n, 10000000)) + 0x303030303030302F;
-    fill(&mut space[at..end], t);
-    end
+    put_word(space, at, digits_of_rest(n, 10000000) + 0x303030303030302F)
 }
 
 // Writes n as w digits, the last eight at once where there are as many.
