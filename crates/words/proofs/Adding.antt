@@ -76,15 +76,6 @@ F w = ((w .d4 * 10 + w .d5) * 100 + (w .d6 * 10 + w .d7)) * 4294967296 + ((w .d0
 
 pub pairs-are : (t : ℕ) (w : Eight t) → pairsOf t ≡ P w
 pairs-are t w =
-    let a0 = w .h0 in
-    let a1 = w .h1 in
-    let a2 = w .h2 in
-    let a3 = w .h3 in
-    let a4 = w .h4 in
-    let a5 = w .h5 in
-    let a6 = w .h6 in
-    let a7 = w .h7 in
-    let s = w .is in
     let q : t / 256 ≡ (((((w .d7 * 256 + w .d6) * 256 + w .d5) * 256 + w .d4) * 256 + w .d3) * 256 + w .d2) * 256 + w .d1 = omega arith in
     let e : t * 10 + t / 256 ≡ (((0 * 65536 + ((w .d7 * 10) * 256 + (w .d6 * 10 + w .d7))) * 65536 + ((w .d5 * 10 + w .d6) * 256 + (w .d4 * 10 + w .d5))) * 65536 + ((w .d3 * 10 + w .d4) * 256 + (w .d2 * 10 + w .d3))) * 65536 + ((w .d1 * 10 + w .d2) * 256 + (w .d0 * 10 + w .d1)) = omega arith in
     ap (λ (x : ℕ). bitAnd x 71777214294589695) e
@@ -93,14 +84,6 @@ pairs-are t w =
 
 pub fours-are : (t : ℕ) (w : Eight t) → foursOf (P w) ≡ F w
 fours-are t w =
-    let a0 = w .h0 in
-    let a1 = w .h1 in
-    let a2 = w .h2 in
-    let a3 = w .h3 in
-    let a4 = w .h4 in
-    let a5 = w .h5 in
-    let a6 = w .h6 in
-    let a7 = w .h7 in
     let e : P w * 100 + P w / 65536 ≡ (0 * 4294967296 + (((w .d6 * 10 + w .d7) * 100) * 65536 + ((w .d4 * 10 + w .d5) * 100 + (w .d6 * 10 + w .d7)))) * 4294967296 + (((w .d2 * 10 + w .d3) * 100 + (w .d4 * 10 + w .d5)) * 65536 + ((w .d0 * 10 + w .d1) * 100 + (w .d2 * 10 + w .d3))) = omega arith in
     ap (λ (x : ℕ). bitAnd x 281470681808895) e
     ∙ evens16 ((w .d0 * 10 + w .d1) * 100 + (w .d2 * 10 + w .d3)) ((w .d2 * 10 + w .d3) * 100 + (w .d4 * 10 + w .d5)) ((w .d4 * 10 + w .d5) * 100 + (w .d6 * 10 + w .d7)) ((w .d6 * 10 + w .d7) * 100)
@@ -114,14 +97,6 @@ two-fours a b h l =
 pub eight-is : (t : ℕ) (w : Eight t) → eightOf (F w) ≡ decimal 0 (w .d0 ∷ w .d1 ∷ w .d2 ∷ w .d3 ∷ w .d4 ∷ w .d5 ∷ w .d6 ∷ w .d7 ∷ [])
 unfolding decimal
 eight-is t w =
-    let a0 = w .h0 in
-    let a1 = w .h1 in
-    let a2 = w .h2 in
-    let a3 = w .h3 in
-    let a4 = w .h4 in
-    let a5 = w .h5 in
-    let a6 = w .h6 in
-    let a7 = w .h7 in
     let l : (w .d0 * 10 + w .d1) * 100 + (w .d2 * 10 + w .d3) ≤ 9999 = omega arith in
     let h : (w .d4 * 10 + w .d5) * 100 + (w .d6 * 10 + w .d7) ≤ 9999 = omega arith in
     and-mask (F w * 10000 + F w / 4294967296) 32
@@ -177,15 +152,6 @@ eight-of t b n0 =
 
 pub eight-max : (t : ℕ) → Eight t → t ≤ 651061555542690057
 eight-max t w =
-    let a0 = w .h0 in
-    let a1 = w .h1 in
-    let a2 = w .h2 in
-    let a3 = w .h3 in
-    let a4 = w .h4 in
-    let a5 = w .h5 in
-    let a6 = w .h6 in
-    let a7 = w .h7 in
-    let s = w .is in
     omega arith
 
 pub eight-below : (t : ℕ) → t < 18446744073709551616 → allSmall (lowBytes 8 t) ≡ true → decimal 0 (lowBytes 8 t) < 100000000

@@ -1,11 +1,10 @@
 -- `words::internal::put_word` meets its contract. The loop's invariant: the first i bytes of the word stand in the space, and the bytes left are those of what is left of it. Assumes nothing.
-use mathlib.Core.Path.{_≡_, refl, sym, ap, _∙_}
-use mathlib.Core.List.{List}
-use Prim.Native.Nat.{ℕ, _+_, _-_, _≤_}
+use mathlib.Core.Path.{_≡_, refl, _∙_}
+use Prim.Native.Nat.{_-_, _≤_}
 use native.Mathlib.Numerals.{add-one}
 use native.Mathlib.Omega.{arith}
 use denote.Ref.{now}
-use lib.ListN.{length, drop, set, length-set}
+use lib.ListN.{length, drop, length-set}
 use lib.Seq.{paste, paste-zero, paste-suc, take-all}
 use Rattle.output.specs.Output.{overlay}
 use Rattle.words.specs.Words.{lowBytes}
