@@ -1,6 +1,6 @@
 -- What opening gives: the tender of the announcement, or an empty one that is revoked. Assumes nothing.
-use mathlib.Core.Path.{_≡_, refl, sym, ap, _∙_}
-use mathlib.Core.Bool.{true, false, false≢true}
+use mathlib.Core.Path.{_≡_, sym, ap, _∙_}
+use mathlib.Core.Bool.{true, false}
 use mathlib.Core.List.{List, []}
 use mathlib.Core.Option.{Option, none, some}
 use Prim.Native.Nat.{ℕ}
@@ -13,35 +13,16 @@ use Rattle.rules.specs.Calls.{Open, Revoked, noTender, openTender}
 use Rattle.rules.proofs.ArrivalOrder.{few-codes, rising-codes}
 use Rattle.terms.specs.declared.Terms as declared
 use Rattle.terms.specs.declared.OpenAnswer.{OpenAnswer}
-use Rattle.terms.specs.declared.OpenAnswer.the-variants.{Opened, NotAnnouncement, OtherOrigin, Malformed, UnknownType, Impossible, Disordered, BadCodes}
 use Rattle.terms.specs.Viewed as terms
 use Rattle.terms.specs.Viewed.{openRefusal, isOpened, codesUnlessRefused, openingTerms}
+use Rattle.terms.proofs.Forming.{opened-none}
+pub use Rattle.terms.proofs.Forming.{refused-some}
 use Rattle.book.specs.declared.Book.{Book}
 use Rattle.book.specs.Viewed as book
 use Rattle.book.proofs.Empty.{new-whole}
 use Rattle.book.proofs.Joining.{new-codes}
 use Rattle.tender.specs.declared.State.the-variants as state
 use Rattle.tender.specs.Calls.{Opens}
-
-pub opened-none : (a : OpenAnswer) → isOpened a ≡ true → openRefusal a ≡ none
-opened-none Opened h = refl
-opened-none NotAnnouncement h = absurd (false≢true h)
-opened-none OtherOrigin h = absurd (false≢true h)
-opened-none Malformed h = absurd (false≢true h)
-opened-none UnknownType h = absurd (false≢true h)
-opened-none Impossible h = absurd (false≢true h)
-opened-none Disordered h = absurd (false≢true h)
-opened-none BadCodes h = absurd (false≢true h)
-
-pub refused-some : (a : OpenAnswer) → isOpened a ≡ false → (n : ℕ) × (openRefusal a ≡ some n)
-refused-some Opened h = absurd (false≢true (sym h))
-refused-some NotAnnouncement h = (1, refl)
-refused-some OtherOrigin h = (2, refl)
-refused-some Malformed h = (3, refl)
-refused-some UnknownType h = (4, refl)
-refused-some Impossible h = (5, refl)
-refused-some Disordered h = (6, refl)
-refused-some BadCodes h = (7, refl)
 
 module _ (m codes : List ℕ) (a : OpenAnswer) (t : declared.Terms)
     (e : _≡_ {A = Option ℕ × rules.Terms} (openRefusal a, terms.viewed t (codesUnlessRefused m codes)) (openingTerms m codes)) where
