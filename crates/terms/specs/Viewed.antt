@@ -1,4 +1,5 @@
 -- The answers and terms of the code as those of the rules, and the parts in which the code tests an announcement. Assumes nothing.
+use mathlib.Core.Path.{_≡_}
 use mathlib.Core.Bool.{Bool, true, false, _&&_}
 use mathlib.Core.List.{List, [], _∷_}
 use mathlib.Core.Option.{Option, none, some}
@@ -13,6 +14,7 @@ use Rattle.envelope.specs.Refusals.{unlessRefused}
 use Rattle.rules.specs.Opening as rules
 use Rattle.rules.specs.Opening.{isDate, isTime, openingRefused, termsOf, noTerms}
 use Rattle.terms.specs.declared.Terms as declared
+use Rattle.terms.specs.declared.Opening.{Opening}
 use Rattle.terms.specs.declared.OpenAnswer.{OpenAnswer}
 use Rattle.terms.specs.declared.OpenAnswer.the-variants.{Opened, NotAnnouncement, OtherOrigin, Malformed, UnknownType, Impossible, Disordered, BadCodes}
 
@@ -61,6 +63,10 @@ openingTerms m codes = (openingRefused m codes, unlessRefused (openingRefused m 
 
 unfoldable pub codesUnlessRefused : List ℕ → List ℕ → List ℕ
 codesUnlessRefused m codes = unlessRefused (openingRefused m codes) [] codes
+
+-- what opening promises of an answer and terms
+abbrev pub OpensTerms : List ℕ → List ℕ → Opening → Type 0
+OpensTerms m codes r = _≡_ {A = Option ℕ × rules.Terms} (openRefusal (r .answer), viewed (r .terms) (codesUnlessRefused m codes)) (openingTerms m codes)
 
 -- the parts of condition 3
 unfoldable pub referencesFormed : References → Bool

@@ -27,7 +27,7 @@ ghost use Rattle.layout.specs.Fields.{readable};
 ghost use Rattle.envelope.specs.Announcement.{layout6G0, announcementOf, reading};
 ghost use Rattle.envelope.specs.Refusals.{orZero};
 ghost use Rattle.rules.specs.Opening.{isDate, isTime, wellFormed, otherOrigin, isUnknown, impossible, badCodes, openingRefused, sideOf, termsOf, noTerms};
-ghost use Rattle.terms.specs.Viewed.{referencesFormed, datesFormed, risesFrom, datesInOrder, openRefusal, isOpened, viewed, codesUnlessRefused, openingTerms};
+ghost use Rattle.terms.specs.Viewed.{referencesFormed, datesFormed, risesFrom, datesInOrder, openRefusal, isOpened, viewed, OpensTerms};
 
 // Why an opening is refused, or that it is not.
 pub enum OpenAnswer {
@@ -327,7 +327,7 @@ pub fn number_of_answer(a: OpenAnswer) -> u64
 
 // Opens a tender: the terms of the announcement, or why it is refused and no terms.
 pub fn open(m: &[u8], codes: &[u32]) -> Opening
-    ensures { λ r. ⌜ (openRefusal (r .answer), viewed (r .terms) (codesUnlessRefused (now (m .entry)) (now (codes .entry)))) ≡ openingTerms (now (m .entry)) (now (codes .entry)) ⌝ }
+    ensures { λ r. ⌜ OpensTerms (now (m .entry)) (now (codes .entry)) r ⌝ }
 {
     let r = read(m);
     let answer = refusal(m, r, codes);
