@@ -4,16 +4,15 @@ use mathlib.Core.Logic.{_≢_}
 use mathlib.Core.Bool.{true, false}
 use mathlib.Core.List.{List, [], _∷_}
 use Prim.Native.Nat.{ℕ}
-use lib.Dec.{lit<}
 use lib.ListN.{length}
-use Rattle.layout.specs.Fields.{readable, whole}
-use Rattle.layout.proofs.ReturnTrip.{whole-of, length-fixed}
+use Rattle.layout.specs.Fields.{IsOneOf, readable, whole}
+use Rattle.layout.proofs.ReturnTrip.{Stands, field-whole, field-length}
+use Rattle.layout.proofs.Fixed.{fixed, bytesIn, length-fixed, other-length}
 use Rattle.envelope.specs.declared.application.Field.{Field}
 use Rattle.envelope.specs.declared.application.Field.the-variants.{MessageType, Sender, Recipient, Cro, Date, Time, Check, Identifier, Bids, Name}
-use Rattle.envelope.specs.Application.{layout6G1, position, bytesOf}
-use Rattle.envelope.proofs.Fixed.{fixed, bytesIn, other-length}
+use Rattle.envelope.specs.Application.{entryOf, layout6G1, position, bytesOf}
 
--- the layout of a 6G1
+-- the tags and lengths of a 6G1, in their order
 abbrev pub fields6G1 : List (ℕ × ℕ)
 fields6G1 =
     (0x01, 3)
@@ -28,47 +27,33 @@ fields6G1 =
     ∷ (0x7f, 15)
     ∷ []
 
+-- a readable 6G1 is as long as they say
+pub length-6g1 : (m : List ℕ) → readable layout6G1 m ≡ true → length m ≡ 339
+unfolding layout6G1 fixed bytesIn
+length-6g1 m h = length-fixed fields6G1 m h
+
 -- what is not as long is not readable
 pub other-length-6g1 : (m : List ℕ) → length m ≢ 339 → false ≡ readable layout6G1 m
 unfolding layout6G1 fixed bytesIn
 other-length-6g1 m h = other-length fields6G1 m h
 
--- the length of each field
-abbrev pub width : Field → ℕ
-width MessageType = 3
-width Sender = 5
-width Recipient = 5
-width Cro = 11
-width Date = 8
-width Time = 6
-width Check = 5
-width Identifier = 11
-width Bids = 240
-width Name = 15
+-- each entry stands in the layout at its field's place
+pub placed : (f : Field) → Stands layout6G1 (position f) (entryOf f)
+unfolding layout6G1 Stands
+placed MessageType = refl
+placed Sender = refl
+placed Recipient = refl
+placed Cro = refl
+placed Date = refl
+placed Time = refl
+placed Check = refl
+placed Identifier = refl
+placed Bids = refl
+placed Name = refl
 
 module _ (m : List ℕ) (h : readable layout6G1 m ≡ true) where
   pub whole-field : (f : Field) → whole (position f) m ≡ true
-  unfolding layout6G1
-  whole-field MessageType = whole-of layout6G1 m h 0 (lit< tt)
-  whole-field Sender = whole-of layout6G1 m h 1 (lit< tt)
-  whole-field Recipient = whole-of layout6G1 m h 2 (lit< tt)
-  whole-field Cro = whole-of layout6G1 m h 3 (lit< tt)
-  whole-field Date = whole-of layout6G1 m h 4 (lit< tt)
-  whole-field Time = whole-of layout6G1 m h 5 (lit< tt)
-  whole-field Check = whole-of layout6G1 m h 6 (lit< tt)
-  whole-field Identifier = whole-of layout6G1 m h 7 (lit< tt)
-  whole-field Bids = whole-of layout6G1 m h 8 (lit< tt)
-  whole-field Name = whole-of layout6G1 m h 9 (lit< tt)
+  whole-field f = field-whole layout6G1 m h (position f) (entryOf f) (placed f)
 
-  pub length-field : (f : Field) → length (bytesOf f m) ≡ width f
-  unfolding layout6G1
-  length-field MessageType = length-fixed layout6G1 m h 0 (lit< tt) 3 refl
-  length-field Sender = length-fixed layout6G1 m h 1 (lit< tt) 5 refl
-  length-field Recipient = length-fixed layout6G1 m h 2 (lit< tt) 5 refl
-  length-field Cro = length-fixed layout6G1 m h 3 (lit< tt) 11 refl
-  length-field Date = length-fixed layout6G1 m h 4 (lit< tt) 8 refl
-  length-field Time = length-fixed layout6G1 m h 5 (lit< tt) 6 refl
-  length-field Check = length-fixed layout6G1 m h 6 (lit< tt) 5 refl
-  length-field Identifier = length-fixed layout6G1 m h 7 (lit< tt) 11 refl
-  length-field Bids = length-fixed layout6G1 m h 8 (lit< tt) 240 refl
-  length-field Name = length-fixed layout6G1 m h 9 (lit< tt) 15 refl
+  pub length-field : (f : Field) → IsOneOf (entryOf f .lengths) (length (bytesOf f m))
+  length-field f = field-length layout6G1 m h (position f) (entryOf f) (placed f)

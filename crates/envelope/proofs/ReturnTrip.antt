@@ -1,7 +1,7 @@
 -- The return trip of a 6G1, both ways. Assumes nothing.
 use mathlib.Core.Path.{_≡_, refl, sym, ap, ap₂, _∙_}
 use mathlib.Core.Bool.{Bool, true, false, _&&_, false≢true}
-use mathlib.Core.List.{List, [], _++_}
+use mathlib.Core.List.{List, [], _∷_, _++_, map}
 use mathlib.Core.Option.{Option, none, some}
 use Prim.Native.Nat.{ℕ, _<_, _^_}
 use native.Mathlib.Omega.{arith}
@@ -15,9 +15,9 @@ use Rattle.digits.specs.declared.Digits.the-variants.{Number, None}
 use Rattle.digits.specs.Decimal.{digits, digitsOf, isNumber, numberIn}
 use Rattle.digits.proofs.Reading.{is-number, number-below}
 use Rattle.digits.proofs.Writing.{length-digits, read-written, number-written}
-use Rattle.layout.specs.Fields.{readable, content}
-use Rattle.layout.proofs.ReturnTrip.{allBelow, narrow, Permitted, permits-fixed, readable-encoded, content-encoded, Contents, encoded-back}
-use Rattle.places.specs.Bids.{fits, placesFit, placesText, placesOf, allFormed}
+use Rattle.layout.specs.Fields.{oneOf, readable, content, encoded}
+use Rattle.layout.proofs.ReturnTrip.{narrow, permits, readable-encoded, content-encoded, contentsFrom, encoded-back}
+use Rattle.places.specs.Bids.{fits, placesFit, placesOf, allFormed}
 use Rattle.places.proofs.Writing.{length-places}
 use Rattle.places.proofs.ReturnTrip.{places-back, places-written, places-fit}
 use Rattle.envelope.specs.declared.application.Field.{Field}
@@ -27,7 +27,7 @@ use Rattle.envelope.specs.declared.application.Application.{Application}
 use Rattle.envelope.specs.Refusals.{firstHolding}
 use Rattle.envelope.specs.Application.{layout6G1, position, bytesOf, fieldBytes, fieldsOf, reading, isIdentifier, numbersFit, textsFit, texts, written, write}
 use Rattle.envelope.specs.ReturnTrip.{fieldsFrom, TenPlaces, WrittenReadsBack, allWellFormed, applicationFrom, ReadableWritesBack}
-use Rattle.envelope.proofs.Fields6G1.{width, length-field}
+use Rattle.envelope.proofs.Fields6G1.{length-field}
 use Rattle.envelope.proofs.Writing.{length-written, length-kind, length-identifier, length-name}
 
 -- seven tests that hold together
@@ -42,46 +42,16 @@ seven a b c d e f g h =
 
 -- a 6G1 written from numbers and texts that fit
 module _ (a : Application) (kind identifier name : List ℕ) (ten : TenPlaces a) (nf : numbersFit a ≡ true) (tf : textsFit kind identifier name ≡ true) where
-  permitted : Permitted layout6G1 (texts a kind identifier name)
-  unfolding layout6G1 Permitted
-  permitted = (
-    permits-fixed 3 kind (length-kind kind identifier name tf),
-    (
-      permits-fixed 5 (digits 5 (a .sender)) (length-digits 5 (a .sender)),
-      (
-        permits-fixed 5 (digits 5 (a .recipient)) (length-digits 5 (a .recipient)),
-        (
-          permits-fixed 11 (digits 11 (a .cro)) (length-digits 11 (a .cro)),
-          (
-            permits-fixed 8 (digits 8 (a .date)) (length-digits 8 (a .date)),
-            (
-              permits-fixed 6 (digits 6 (a .time)) (length-digits 6 (a .time)),
-              (
-                permits-fixed 5 (digits 5 (a .check)) (length-digits 5 (a .check)),
-                (
-                  permits-fixed 11 identifier (length-identifier kind identifier name tf),
-                  (
-                    permits-fixed 240 (placesText (a .rates) (a .amounts)) (length-places 10 (a .rates) (a .amounts) (ten .0) (ten .1)),
-                    (
-                      permits-fixed 15 name (length-name kind identifier name tf),
-                      tt,
-                    ),
-                  ),
-                ),
-              ),
-            ),
-          ),
-        ),
-      ),
-    ),
-  )
+  permitted : permits layout6G1 (map length (texts a kind identifier name)) ≡ true
+  unfolding layout6G1 permits oneOf
+  permitted = simp (length-digits, length-kind kind identifier name tf, length-identifier kind identifier name tf, length-name kind identifier name tf, length-places 10 (a .rates) (a .amounts) (ten .0) (ten .1))
 
   readable-written : readable layout6G1 (written a kind identifier name) ≡ true
-  unfolding written layout6G1 narrow allBelow
+  unfolding written layout6G1 narrow
   readable-written = readable-encoded layout6G1 (texts a kind identifier name) refl permitted
 
   content-written : (k : ℕ) → k < 10 → content k (written a kind identifier name) ≡ getD (texts a kind identifier name) k []
-  unfolding written layout6G1 narrow allBelow
+  unfolding written layout6G1 narrow
   content-written k l = content-encoded layout6G1 (texts a kind identifier name) refl permitted k l
 
   -- the number in a field of w digits reads back
@@ -162,14 +132,14 @@ number-in : (d : Digits) → isNumber d ≡ true → d ≡ Number (numberIn d)
 number-in None h = absurd (false≢true h)
 number-in (Number n) h = refl
 
-module _ (m : List ℕ) (r : readable layout6G1 m ≡ true) (g : Field) (h : isNumber (digitsOf (bytesOf g m)) ≡ true) where
-  field-fits : fits (width g) (numberIn (digitsOf (bytesOf g m))) ≡ true
+module _ (m : List ℕ) (g : Field) {w : ℕ} (l : length (bytesOf g m) ≡ w) (h : isNumber (digitsOf (bytesOf g m)) ≡ true) where
+  field-fits : fits w (numberIn (digitsOf (bytesOf g m))) ≡ true
   field-fits =
       let p = is-number (bytesOf g m) (numberIn (digitsOf (bytesOf g m))) (number-in (digitsOf (bytesOf g m)) h) in
-      lt-ltb (numberIn (digitsOf (bytesOf g m))) (10 ^ width g) (rw (p .1) at (number-below (width g) (bytesOf g m) (length-field m r g) (p .0)))
+      lt-ltb (numberIn (digitsOf (bytesOf g m))) (10 ^ w) (rw (p .1) at (number-below w (bytesOf g m) l (p .0)))
 
-  field-again : digits (width g) (numberIn (digitsOf (bytesOf g m))) ≡ bytesOf g m
-  field-again = number-written (width g) (numberIn (digitsOf (bytesOf g m))) (bytesOf g m) (length-field m r g) (number-in (digitsOf (bytesOf g m)) h)
+  field-again : digits w (numberIn (digitsOf (bytesOf g m))) ≡ bytesOf g m
+  field-again = number-written w (numberIn (digitsOf (bytesOf g m))) (bytesOf g m) l (number-in (digitsOf (bytesOf g m)) h)
 
 -- a readable message that is well formed, written from its own fields
 abbrev holds : List ℕ → Field → Bool
@@ -192,7 +162,7 @@ module _ (m : List ℕ) (r : readable layout6G1 m ≡ true) (h : allWellFormed (
   numbers-fit : numbersFit (applicationFrom (fieldsOf m)) ≡ true
   unfolding numbersFit fieldsOf placesOf
   numbers-fit =
-      rw (field-fits m r Sender (each .0), field-fits m r Recipient (each .1), field-fits m r Cro (each .2), field-fits m r Date (each .3), field-fits m r Time (each .4), field-fits m r Check (each .5))
+      rw (field-fits m Sender (length-field m r Sender) (each .0), field-fits m Recipient (length-field m r Recipient) (each .1), field-fits m Cro (length-field m r Cro) (each .2), field-fits m Date (length-field m r Date) (each .3), field-fits m Time (length-field m r Time) (each .4), field-fits m Check (length-field m r Check) (each .5))
       (places-fit 10 (bytesOf Bids m) (length-field m r Bids) (each .6))
 
   texts-fit : textsFit (bytesOf MessageType m) (bytesOf Identifier m) (bytesOf Name m) ≡ true
@@ -200,39 +170,23 @@ module _ (m : List ℕ) (r : readable layout6G1 m ≡ true) (h : allWellFormed (
   texts-fit = rw (eq-eqb (length (bytesOf MessageType m)) 3 (length-field m r MessageType), identifier, eq-eqb (length (bytesOf Name m)) 15 (length-field m r Name))
 
   written-again : written (applicationFrom (fieldsOf m)) (bytesOf MessageType m) (bytesOf Identifier m) (bytesOf Name m) ≡ m
-  unfolding written layout6G1 narrow allBelow Contents fieldsOf placesOf
+  unfolding written layout6G1 narrow contentsFrom fieldsOf placesOf
   written-again =
-      encoded-back layout6G1 (texts (applicationFrom (fieldsOf m)) (bytesOf MessageType m) (bytesOf Identifier m) (bytesOf Name m)) m refl r refl (
-        refl,
-        (
-          field-again m r Sender (each .0),
-          (
-            field-again m r Recipient (each .1),
-            (
-              field-again m r Cro (each .2),
-              (
-                field-again m r Date (each .3),
-                (
-                  field-again m r Time (each .4),
-                  (
-                    field-again m r Check (each .5),
-                    (
-                      refl,
-                      (
-                        places-written 10 (bytesOf Bids m) (length-field m r Bids) (each .6),
-                        (
-                          refl,
-                          tt,
-                        ),
-                      ),
-                    ),
-                  ),
-                ),
-              ),
-            ),
-          ),
-        ),
+      ap (encoded layout6G1) (
+      λ i.
+      bytesOf MessageType m
+      ∷ field-again m Sender (length-field m r Sender) (each .0) i
+      ∷ field-again m Recipient (length-field m r Recipient) (each .1) i
+      ∷ field-again m Cro (length-field m r Cro) (each .2) i
+      ∷ field-again m Date (length-field m r Date) (each .3) i
+      ∷ field-again m Time (length-field m r Time) (each .4) i
+      ∷ field-again m Check (length-field m r Check) (each .5) i
+      ∷ bytesOf Identifier m
+      ∷ places-written 10 (bytesOf Bids m) (length-field m r Bids) (each .6) i
+      ∷ bytesOf Name m
+      ∷ []
       )
+      ∙ encoded-back layout6G1 m refl r
 
 pub readable-writes-back : ReadableWritesBack
 unfolding write firstHolding

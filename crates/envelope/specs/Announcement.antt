@@ -22,20 +22,35 @@ use Rattle.envelope.specs.declared.announcement.Announcement.{Announceme
 
 -- '6G0: 01, 040, 050, 020, D31, 601, 6G0 as above, then 6G1 type (71, 18), 6G2 characteristics (72, 100), 6G3 spot date (73, 8),
 -- 6G4 forward date (74, 8), 6G5 cut-off hhmmss (75, 6)'
+abbrev pub entryOf : Field → FieldEntry
+entryOf MessageType = one 0x01 3
+entryOf Sender = one 0x04 5
+entryOf Recipient = one 0x05 5
+entryOf Cro = one 0x02 11
+entryOf Date = one 0x31 8
+entryOf Time = one 0x60 6
+entryOf Identifier = one 0x70 11
+entryOf TenderType = one 0x71 18
+entryOf Characteristics = one 0x72 100
+entryOf SpotDate = one 0x73 8
+entryOf ForwardDate = one 0x74 8
+entryOf Cutoff = one 0x75 6
+
+-- in this order
 unfoldable pub layout6G0 : List FieldEntry
 layout6G0 =
-    one 0x01 3
-    ∷ one 0x04 5
-    ∷ one 0x05 5
-    ∷ one 0x02 11
-    ∷ one 0x31 8
-    ∷ one 0x60 6
-    ∷ one 0x70 11
-    ∷ one 0x71 18
-    ∷ one 0x72 100
-    ∷ one 0x73 8
-    ∷ one 0x74 8
-    ∷ one 0x75 6
+    entryOf MessageType
+    ∷ entryOf Sender
+    ∷ entryOf Recipient
+    ∷ entryOf Cro
+    ∷ entryOf Date
+    ∷ entryOf Time
+    ∷ entryOf Identifier
+    ∷ entryOf TenderType
+    ∷ entryOf Characteristics
+    ∷ entryOf SpotDate
+    ∷ entryOf ForwardDate
+    ∷ entryOf Cutoff
     ∷ []
 
 -- a field's place in the layout, counted from 0

@@ -25,18 +25,31 @@ one tag n = record { tag = tag; lengths = n ∷ [] }
 
 -- '6G1: 01 type (tag 01, 3); 040 sender (04, 5); 050 recipient (05, 5); 020 CRO (02, 11); D31 reference date (31, 8);
 -- 601 reference time (60, 6); 010 check digit (10, 5); 6G0 operation identifier (70, 11); 6G6 bids (76, 240); 6GG contact name (7F, 15)'
+abbrev pub entryOf : Field → FieldEntry
+entryOf MessageType = one 0x01 3
+entryOf Sender = one 0x04 5
+entryOf Recipient = one 0x05 5
+entryOf Cro = one 0x02 11
+entryOf Date = one 0x31 8
+entryOf Time = one 0x60 6
+entryOf Check = one 0x10 5
+entryOf Identifier = one 0x70 11
+entryOf Bids = one 0x76 240
+entryOf Name = one 0x7f 15
+
+-- 'in the order below'
 unfoldable pub layout6G1 : List FieldEntry
 layout6G1 =
-    one 0x01 3
-    ∷ one 0x04 5
-    ∷ one 0x05 5
-    ∷ one 0x02 11
-    ∷ one 0x31 8
-    ∷ one 0x60 6
-    ∷ one 0x10 5
-    ∷ one 0x70 11
-    ∷ one 0x76 240
-    ∷ one 0x7f 15
+    entryOf MessageType
+    ∷ entryOf Sender
+    ∷ entryOf Recipient
+    ∷ entryOf Cro
+    ∷ entryOf Date
+    ∷ entryOf Time
+    ∷ entryOf Check
+    ∷ entryOf Identifier
+    ∷ entryOf Bids
+    ∷ entryOf Name
     ∷ []
 
 -- a field's place in the layout, counted from 0

@@ -4,3 +4,4 @@ pub mod Writing
 pub mod ReturnTrip
 pub mod Announcement
 pub mod Parts
+pub mod Promise

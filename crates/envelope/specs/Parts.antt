@@ -40,25 +40,25 @@ valuesOf n =
     ∷ numberIn (n .limit)
     ∷ []
 
--- the first four parts have numbers, each with a slash after it
-unfoldable pub firstFormed : List ℕ → Numbers → Bool
-firstFormed s n =
+-- each part has a number
+abbrev pub allNumbers : Numbers → Bool
+allNumbers n =
     isNumber (n .execution)
-    && eqb (getD s 8 0) slash
     && isNumber (n .most)
-    && eqb (getD s 11 0) slash
     && isNumber (n .offered)
-    && eqb (getD s 27 0) slash
     && isNumber (n .minimum)
-    && eqb (getD s 43 0) slash
-
--- the last four have numbers, joined by slashes
-unfoldable pub lastFormed : List ℕ → Numbers → Bool
-lastFormed s n =
-    isNumber (n .increment)
-    && eqb (getD s 59 0) slash
+    && isNumber (n .increment)
     && isNumber (n .maximum)
-    && eqb (getD s 75 0) slash
     && isNumber (n .allocation)
-    && eqb (getD s 91 0) slash
     && isNumber (n .limit)
+
+-- slashes stand between the parts
+abbrev pub slashesStand : List ℕ → Bool
+slashesStand s =
+    eqb (getD s 8 0) slash
+    && eqb (getD s 11 0) slash
+    && eqb (getD s 27 0) slash
+    && eqb (getD s 43 0) slash
+    && eqb (getD s 59 0) slash
+    && eqb (getD s 75 0) slash
+    && eqb (getD s 91 0) slash

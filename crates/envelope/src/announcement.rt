@@ -1,12 +1,13 @@
 // A 6G0, the announcement of a tender, read from bytes.
 use crate::application::is_identifier;
 use crate::internal::bytes_in_6g0;
-use crate::internal::number_in;
+use crate::internal::contents_if;
+use crate::internal::digits_in_6g0;
+use crate::internal::position_in_6g0;
 use calendar::date_before;
 use digits::Digits;
 use digits::has_number;
 use digits::number_of;
-use layout::internal::contents;
 use places::Amount;
 use places::Rate;
 use texts::same;
@@ -20,7 +21,7 @@ ghost use lib.ListN.{length};
 ghost use Rattle.digits.specs.Decimal.{numberIn};
 ghost use Rattle.layout.specs.Fields.{readable};
 ghost use Rattle.envelope.specs.Announcement.{layout6G0, fieldBytes, tenderTypeOf, characteristicsFrom, characteristicsOf, referencesOf, announcementOf, noAnnouncement, reading, datesOrdered};
-ghost use Rattle.envelope.specs.Parts.{numbersAt, valuesOf, firstFormed, lastFormed};
+ghost use Rattle.envelope.specs.Parts.{numbersAt, valuesOf, allNumbers, slashesStand};
 
 // The fields of a 6G0, in their order.
 pub enum Field {
@@ -118,11 +119,7 @@ pub fn is_6g0(m: &[u8]) -> bool
 pub fn bytes(m: &[u8], f: Field) -> &[u8]
     ensures { λ r. ⌜ now r ≡ fieldBytes f (now (m .entry)) ⌝ }
 {
-    if is_6g0(m) {
-        bytes_in_6g0(m, f)
-    } else {
-        &m[0..0]
-    }
+    contents_if(is_6g0(m), m, position_in_6g0(f))
 }
 
 // The kind of tender that a text announces.
@@ -169,41 +166,40 @@ fn numbers_at(s: &[u8]) -> Numbers
     }
 }
 
-// Whether the first four parts have numbers, each with a slash after it.
-fn first_formed(s: &[u8], n: Numbers) -> bool
-    requires { ⌜ length (now s) ≡ 100 ⌝ }
-    ensures { λ r. ⌜ r ≡ firstFormed (now (s .entry)) n ⌝ }
+// Whether each part has a number.
+fn all_numbers(n: Numbers) -> bool
+    ensures { λ r. ⌜ r ≡ allNumbers n ⌝ }
 {
     let execution = n.execution;
     let most = n.most;
     let offered = n.offered;
     let minimum = n.minimum;
-    has_number(execution)
-        & (s[8] == b'/')
-        & has_number(most)
-        & (s[11] == b'/')
-        & has_number(offered)
-        & (s[27] == b'/')
-        & has_number(minimum)
-        & (s[43] == b'/')
-}
-
-// Whether the last four parts have numbers, joined by slashes.
-fn last_formed(s: &[u8], n: Numbers) -> bool
-    requires { ⌜ length (now s) ≡ 100 ⌝ }
-    ensures { λ r. ⌜ r ≡ lastFormed (now (s .entry)) n ⌝ }
-{
     let increment = n.increment;
     let maximum = n.maximum;
     let allocation = n.allocation;
     let limit = n.limit;
-    has_number(increment)
-        & (s[59] == b'/')
+    has_number(execution)
+        & has_number(most)
+        & has_number(offered)
+        & has_number(minimum)
+        & has_number(increment)
         & has_number(maximum)
-        & (s[75] == b'/')
         & has_number(allocation)
-        & (s[91] == b'/')
         & has_number(limit)
+}
+
+// Whether slashes stand between the parts.
+fn slashes_stand(s: &[u8]) -> bool
+    requires { ⌜ length (now s) ≡ 100 ⌝ }
+    ensures { λ r. ⌜ r ≡ slashesStand (now (s .entry)) ⌝ }
+{
+    (s[8] == b'/')
+        & (s[11] == b'/')
+        & (s[27] == b'/')
+        & (s[43] == b'/')
+        & (s[59] == b'/')
+        & (s[75] == b'/')
+        & (s[91] == b'/')
 }
 
 // Field 6G2: its numbers, or none where it is malformed.
@@ -212,7 +208,7 @@ fn characteristics_of(s: &[u8]) -> Characteristics
     ensures { λ r. ⌜ r ≡ characteristicsOf (now (s .entry)) ⌝ }
 {
     let n = numbers_at(s);
-    if first_formed(s, n) & last_formed(s, n) {
+    if all_numbers(n) & slashes_stand(s) {
         formed_characteristics(n)
     } else {
         no_characteristics()
@@ -267,11 +263,11 @@ fn references_of(m: &[u8]) -> References
     requires { ⌜ readable layout6G0 (now m) ≡ true ⌝ }
     ensures { λ r. ⌜ r ≡ referencesOf (now (m .entry)) ⌝ }
 {
-    let sender = number_in(m, 1);
-    let recipient = number_in(m, 2);
-    let cro = number_in(m, 3);
-    let date = number_in(m, 4);
-    let time = number_in(m, 5);
+    let sender = digits_in_6g0(m, Field::Sender);
+    let recipient = digits_in_6g0(m, Field::Recipient);
+    let cro = digits_in_6g0(m, Field::Cro);
+    let date = digits_in_6g0(m, Field::Date);
+    let time = digits_in_6g0(m, Field::Time);
     References {
         sender,
         recipient,
@@ -287,12 +283,12 @@ fn announcement_of(m: &[u8]) -> Announcement
     ensures { λ r. ⌜ r ≡ announcementOf (now (m .entry)) ⌝ }
 {
     let references = references_of(m);
-    let identified = is_identifier(contents(m, 6));
-    let kind = kind_of(contents(m, 7));
-    let characteristics = characteristics_of(contents(m, 8));
-    let spot = number_in(m, 9);
-    let forward = number_in(m, 10);
-    let cutoff = number_in(m, 11);
+    let identified = is_identifier(bytes_in_6g0(m, Field::Identifier));
+    let kind = kind_of(bytes_in_6g0(m, Field::TenderType));
+    let characteristics = characteristics_of(bytes_in_6g0(m, Field::Characteristics));
+    let spot = digits_in_6g0(m, Field::SpotDate);
+    let forward = digits_in_6g0(m, Field::ForwardDate);
+    let cutoff = digits_in_6g0(m, Field::Cutoff);
     Announcement {
         references,
         identified,

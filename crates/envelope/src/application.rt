@@ -1,9 +1,10 @@
 // A 6G1, the application: read from bytes and written from numbers and texts.
 use crate::internal::bytes_in;
-use crate::internal::number_in;
+use crate::internal::contents_if;
+use crate::internal::digits_in;
+use crate::internal::position_of;
 use digits::Digits;
 use digits::all_digits;
-use layout::internal::contents;
 use layout::internal::put_field;
 use layout::internal::put_head;
 use places::Amount;
@@ -95,7 +96,7 @@ pub fn is_6g1(m: &[u8]) -> bool
 pub fn bytes(m: &[u8], f: Field) -> &[u8]
     ensures { λ r. ⌜ now r ≡ fieldBytes f (now (m .entry)) ⌝ }
 {
-    if is_6g1(m) { bytes_in(m, f) } else { &m[0..0] }
+    contents_if(is_6g1(m), m, position_of(f))
 }
 
 // The numbers of a readable 6G1.
@@ -103,13 +104,13 @@ fn fields_of(m: &[u8]) -> Fields
     requires { ⌜ readable layout6G1 (now m) ≡ true ⌝ }
     ensures { λ r. ⌜ r ≡ fieldsOf (now (m .entry)) ⌝ }
 {
-    let sender = number_in(m, 1);
-    let recipient = number_in(m, 2);
-    let cro = number_in(m, 3);
-    let date = number_in(m, 4);
-    let time = number_in(m, 5);
-    let check = number_in(m, 6);
-    let places = read_places(contents(m, 8));
+    let sender = digits_in(m, Field::Sender);
+    let recipient = digits_in(m, Field::Recipient);
+    let cro = digits_in(m, Field::Cro);
+    let date = digits_in(m, Field::Date);
+    let time = digits_in(m, Field::Time);
+    let check = digits_in(m, Field::Check);
+    let places = read_places(bytes_in(m, Field::Bids));
     Fields {
         sender,
         recipient,

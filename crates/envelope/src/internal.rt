@@ -5,12 +5,13 @@ use digits::Digits;
 use digits::internal::number;
 use layout::internal::contents;
 ghost use mathlib.Core.Path.{_≡_};
-ghost use mathlib.Core.Bool.{true};
+ghost use mathlib.Core.Bool.{true, cond};
+ghost use mathlib.Core.List.{[]};
 ghost use Prim.Native.Nat.{_≤_};
 ghost use lib.ListN.{length};
 ghost use Rattle.digits.specs.Decimal.{digitsOf};
-ghost use Rattle.layout.specs.Fields.{readable, content, whole};
-ghost use Rattle.envelope.specs.Application.{layout6G1, position, bytesOf};
+ghost use Rattle.layout.specs.Fields.{IsOneOf, atMost, readable, content, whole};
+ghost use Rattle.envelope.specs.Application.{entryOf, layout6G1, position, bytesOf};
 ghost use Rattle.envelope.specs.Announcement as announced;
 
 // The number in field k, counted from 0.
@@ -22,8 +23,16 @@ pub fn number_in(m: &[u8], k: usize) -> Digits
     number(contents(m, k))
 }
 
+// The contents of field k where it is there, else none.
+pub fn contents_if(there: bool, m: &[u8], k: usize) -> &[u8]
+    requires { ⌜ (there ≡ true → whole k (now m) ≡ true) ⌝ }
+    ensures { λ r. ⌜ now r ≡ cond there (content k (now (m .entry))) [] ⌝ }
+{
+    if there { contents(m, k) } else { &m[0..0] }
+}
+
 // The place of a field in the layout of a 6G1.
-fn position_of(f: Field) -> usize
+pub fn position_of(f: Field) -> usize
     ensures { λ r. ⌜ r ≡ position f ⌝ }
 {
     match f {
@@ -40,16 +49,25 @@ fn position_of(f: Field) -> usize
     }
 }
 
-// The bytes of a field of a readable 6G1.
+// The bytes of a field of a readable 6G1, as many as one of the lengths of its entry.
 pub fn bytes_in(m: &[u8], f: Field) -> &[u8]
     requires { ⌜ readable layout6G1 (now m) ≡ true ⌝ }
-    ensures { λ r. ⌜ now r ≡ bytesOf f (now (m .entry)) ⌝ }
+    ensures { λ r. ⌜ (now r ≡ bytesOf f (now (m .entry))) × IsOneOf (entryOf f .lengths) (length (now r)) ⌝ }
 {
     contents(m, position_of(f))
 }
 
+// What a digit field of a readable 6G1 holds.
+pub fn digits_in(m: &[u8], f: Field) -> Digits
+    requires { ⌜ readable layout6G1 (now m) ≡ true ⌝ }
+    requires { ⌜ atMost 19 (entryOf f .lengths) ≡ true ⌝ }
+    ensures { λ r. ⌜ r ≡ digitsOf (bytesOf f (now (m .entry))) ⌝ }
+{
+    number(bytes_in(m, f))
+}
+
 // The place of a field in the layout of a 6G0.
-fn position_in_6g0(f: announcement::Field) -> usize
+pub fn position_in_6g0(f: announcement::Field) -> usize
     ensures { λ r. ⌜ r ≡ announced.position f ⌝ }
 {
     match f {
@@ -68,10 +86,19 @@ fn position_in_6g0(f: announcement::Field) -> usize
     }
 }
 
-// The bytes of a field of a readable 6G0.
+// The bytes of a field of a readable 6G0, as many as one of the lengths of its entry.
 pub fn bytes_in_6g0(m: &[u8], f: announcement::Field) -> &[u8]
     requires { ⌜ readable announced.layout6G0 (now m) ≡ true ⌝ }
-    ensures { λ r. ⌜ now r ≡ announced.bytesOf f (now (m .entry)) ⌝ }
+    ensures { λ r. ⌜ (now r ≡ announced.bytesOf f (now (m .entry))) × IsOneOf (announced.entryOf f .lengths) (length (now r)) ⌝ }
 {
     contents(m, position_in_6g0(f))
+}
+
+// What a digit field of a readable 6G0 holds.
+pub fn digits_in_6g0(m: &[u8], f: announcement::Field) -> Digits
+    requires { ⌜ readable announced.layout6G0 (now m) ≡ true ⌝ }
+    requires { ⌜ atMost 19 (announced.entryOf f .lengths) ≡ true ⌝ }
+    ensures { λ r. ⌜ r ≡ digitsOf (announced.bytesOf f (now (m .entry))) ⌝ }
+{
+    number(bytes_in_6g0(m, f))
 }

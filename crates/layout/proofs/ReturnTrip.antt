@@ -1,16 +1,17 @@
 -- Fields written one after the other are readable and each is read back; a readable message is its fields again. Assumes nothing.
-use mathlib.Core.Path.{_≡_, refl, sym, ap, _∙_}
-use mathlib.Core.Bool.{Bool, true, _&&_, or-false}
-use mathlib.Core.List.{List, [], _∷_, _++_}
+use mathlib.Core.Path.{_≡_, refl, sym, ap, ap₂, subst, _∙_}
+use mathlib.Core.Logic.{inl, inr, ⊎-elim}
+use mathlib.Core.Bool.{Bool, true, false, _&&_, or-false, false≢true}
+use mathlib.Core.List.{List, [], _∷_, _++_, map}
 use Prim.Native.Nat.{ℕ, zero, suc, _+_, _*_, _-_, _/_, _%_, _≤_, _<_}
 use native.Mathlib.Nat.{not-suc-le-zero, le-of-suc-le-suc}
 use native.Mathlib.Omega.{arith}
-use lib.Dec.{ltb, eqb}
+use lib.Dec.{leb, eqb}
 use lib.ListN.{length, take, drop, getD, length-append, length-drop, take-append-drop}
 use lib.Seq.{drop-drop, take-at, drop-at, length-take-le}
-use borrow.Author.Tests.{le-leb, ltb-true, eqb-true, eq-eqb}
+use borrow.Author.Tests.{le-leb, leb-true, eqb-true}
 use Rattle.laws.proofs.Tests.{and-left, and-right, or-cases}
-use Rattle.layout.specs.Fields.{FieldEntry, field, oneOf, lengthAt, starts, readable, offset, content, whole, encoded}
+use Rattle.layout.specs.Fields.{FieldEntry, field, oneOf, IsOneOf, atMost, lengthAt, starts, readable, offset, content, whole, encoded}
 use Rattle.layout.proofs.Fields.{starts-is, starts-fits, starts-tag, starts-length}
 
 -- what readable says of the first field and of the rest
@@ -40,58 +41,77 @@ content-suc : (k : ℕ) (m : List ℕ) → content (suc k) m ≡ content k (drop
 unfolding content offset
 content-suc k m = rw (← drop-drop (offset k (drop (3 + lengthAt m) m)) (3 + lengthAt m))
 
+-- an entry is that of field k
+unfoldable pub Stands : List FieldEntry → ℕ → FieldEntry → Type 0
+Stands [] k e = ⊥
+Stands (d ∷ es) zero e = d ≡ e
+Stands (d ∷ es) (suc k) e = Stands es k e
+
 -- each field of a readable message has one of its entry's lengths
-abbrev none : FieldEntry
-none = record { tag = 0; lengths = [] }
+length-content : (es : List FieldEntry) (m : List ℕ) → readable es m ≡ true → (k : ℕ) (e : FieldEntry) → Stands es k e → oneOf (e .lengths) (length (content k m)) ≡ true
+unfolding Stands
+length-content [] m h k e p = absurd p
+length-content (d ∷ es) m h zero e p = rw (length-first m (starts-fits d m (first d es m h))) (ap (λ (x : FieldEntry). oneOf (x .lengths) (lengthAt m)) (sym p) ∙ starts-length d m (first d es m h))
+length-content (d ∷ es) m h (suc k) e p = rw (content-suc k m) (length-content es (drop (3 + lengthAt m) m) (rest d es m h) k e p)
 
-length-content : (es : List FieldEntry) (m : List ℕ) → readable es m ≡ true → (k : ℕ) → k < length es → oneOf (getD es k none .lengths) (length (content k m)) ≡ true
-length-content [] m h k l = absurd (not-suc-le-zero l)
-length-content (e ∷ es) m h zero l = rw (length-first m (starts-fits e m (first e es m h))) (starts-length e m (first e es m h))
-length-content (e ∷ es) m h (suc k) l = rw (content-suc k m) (length-content es (drop (3 + lengthAt m) m) (rest e es m h) k (le-of-suc-le-suc l))
-
-one-of-one : (n k : ℕ) → oneOf (n ∷ []) k ≡ true → k ≡ n
+pub is-one-of : (ls : List ℕ) (n : ℕ) → oneOf ls n ≡ true → IsOneOf ls n
 unfolding oneOf
-one-of-one n k h = eqb-true k n (sym (or-false (eqb k n)) ∙ h)
+is-one-of [] n h = absurd (false≢true h)
+is-one-of (l ∷ []) n h = eqb-true n l (sym (or-false (eqb n l)) ∙ h)
+is-one-of (l ∷ k ∷ ls) n h = or-cases (eqb n l) (oneOf (k ∷ ls) n) h (λ e. inl (eqb-true n l e)) (λ e. inr (is-one-of (k ∷ ls) n e))
 
--- a field whose entry has one length only has that length
-pub length-fixed : (es : List FieldEntry) (m : List ℕ) → readable es m ≡ true → (k : ℕ) → k < length es → (n : ℕ) → getD es k none .lengths ≡ n ∷ [] → length (content k m) ≡ n
-length-fixed es m h k l n e = one-of-one n (length (content k m)) (rw e at (length-content es m h k l))
+pub at-most : (n : ℕ) (ls : List ℕ) (k : ℕ) → atMost n ls ≡ true → IsOneOf ls k → k ≤ n
+at-most n [] k h o = absurd o
+at-most n (l ∷ []) k h o = let r = leb-true l n (and-left (leb l n) true h) in omega arith
+at-most n (l ∷ j ∷ ls) k h o =
+    ⊎-elim (λ e. let r = leb-true l n (and-left (leb l n) (atMost n (j ∷ ls)) h) in omega arith) (λ e. at-most n (j ∷ ls) k (and-right (leb l n) (atMost n (j ∷ ls)) h) e) o
 
-pub permits-fixed : (n : ℕ) (text : List ℕ) → length text ≡ n → oneOf (n ∷ []) (length text) ≡ true
-unfolding oneOf
-permits-fixed n text e = rw (eq-eqb (length text) n e)
+stands-before : (es : List FieldEntry) (k : ℕ) (e : FieldEntry) → Stands es k e → k < length es
+unfolding Stands
+stands-before [] k e p = absurd p
+stands-before (d ∷ es) zero e p = omega arith
+stands-before (d ∷ es) (suc k) e p = let l = stands-before es k e p in omega arith
+
+-- what is known of a field of a readable message, by its entry
+module _ (es : List FieldEntry) (m : List ℕ) (h : readable es m ≡ true) (k : ℕ) (e : FieldEntry) (p : Stands es k e) where
+  pub field-whole : whole k m ≡ true
+  field-whole = whole-of es m h k (stands-before es k e p)
+
+  pub field-length : IsOneOf (e .lengths) (length (content k m))
+  field-length = is-one-of (e .lengths) (length (content k m)) (length-content es m h k e p)
+
+  pub field-read : {s : List ℕ} → s ≡ content k m → (s ≡ content k m) × IsOneOf (e .lengths) (length s)
+  field-read q = (q, subst (λ (t : List ℕ). IsOneOf (e .lengths) (length t)) (sym q) field-length)
 
 -- all lengths of a layout are below 256, so that a head gives them with a high byte of zero
-unfoldable pub allBelow : List ℕ → Bool
-allBelow [] = true
-allBelow (l ∷ ls) = ltb l 256 && allBelow ls
-
 unfoldable pub narrow : List FieldEntry → Bool
 narrow [] = true
-narrow (e ∷ es) = allBelow (e .lengths) && narrow es
+narrow (e ∷ es) = atMost 255 (e .lengths) && narrow es
 
-below-of : (ls : List ℕ) (n : ℕ) → allBelow ls ≡ true → oneOf ls n ≡ true → n < 256
-unfolding allBelow oneOf
-below-of [] n h o = absurd (let z : _≡_ {A = ℕ} 0 1 = cc in omega arith)
-below-of (l ∷ ls) n h o =
-    or-cases (eqb n l) (oneOf ls n) o
-    (λ e. let q = eqb-true n l e in let b = ltb-true l 256 (and-left (ltb l 256) (allBelow ls) h) in omega arith)
-    (λ e. below-of ls n (and-right (ltb l 256) (allBelow ls) h) e)
-
-small : (e : FieldEntry) (es : List FieldEntry) (n : ℕ) → narrow (e ∷ es) ≡ true → oneOf (e .lengths) n ≡ true → n < 256
+small : (e : FieldEntry) (es : List FieldEntry) (n : ℕ) → narrow (e ∷ es) ≡ true → oneOf (e .lengths) n ≡ true → n ≤ 255
 unfolding narrow
-small e es n h o = below-of (e .lengths) n (and-left (allBelow (e .lengths)) (narrow es) h) o
+small e es n h o = at-most 255 (e .lengths) n (and-left (atMost 255 (e .lengths)) (narrow es) h) (is-one-of (e .lengths) n o)
 
 narrow-rest : (e : FieldEntry) (es : List FieldEntry) → narrow (e ∷ es) ≡ true → narrow es ≡ true
 unfolding narrow
-narrow-rest e es h = and-right (allBelow (e .lengths)) (narrow es) h
+narrow-rest e es h = and-right (atMost 255 (e .lengths)) (narrow es) h
 
--- texts whose lengths a layout permits, one for each entry
-unfoldable pub Permitted : List FieldEntry → List (List ℕ) → Type 0
-Permitted [] [] = Unit {0}
-Permitted [] (t ∷ ts) = ⊥
-Permitted (e ∷ es) [] = ⊥
-Permitted (e ∷ es) (t ∷ ts) = (oneOf (e .lengths) (length t) ≡ true) × Permitted es ts
+-- a layout permits these lengths, one for each entry
+unfoldable pub permits : List FieldEntry → List ℕ → Bool
+permits [] [] = true
+permits [] (n ∷ ns) = false
+permits (e ∷ es) [] = false
+permits (e ∷ es) (n ∷ ns) = oneOf (e .lengths) n && permits es ns
+
+-- texts of such lengths: the first, and the rest
+module _ (e : FieldEntry) (es : List FieldEntry) (t : List ℕ) (ts : List (List ℕ)) (p : permits (e ∷ es) (map length (t ∷ ts)) ≡ true) where
+  first-permitted : oneOf (e .lengths) (length t) ≡ true
+  unfolding permits
+  first-permitted = and-left (oneOf (e .lengths) (length t)) (permits es (map length ts)) p
+
+  rest-permitted : permits es (map length ts) ≡ true
+  unfolding permits
+  rest-permitted = and-right (oneOf (e .lengths) (length t)) (permits es (map length ts)) p
 
 -- a field written, with what follows it
 length-head : (t : ℕ) (s r : List ℕ) → length s < 65536 → lengthAt (field t s ++ r) ≡ length s
@@ -112,40 +132,42 @@ first-starts e s r h p =
     ∙ rw n p
 
 -- fields written are readable
-pub readable-encoded : (es : List FieldEntry) (ts : List (List ℕ)) → narrow es ≡ true → Permitted es ts → readable es (encoded es ts) ≡ true
-unfolding encoded readable Permitted
+pub readable-encoded : (es : List FieldEntry) (ts : List (List ℕ)) → narrow es ≡ true → permits es (map length ts) ≡ true → readable es (encoded es ts) ≡ true
+unfolding encoded readable permits
 readable-encoded [] [] w p = refl
-readable-encoded [] (t ∷ ts) w p = absurd p
-readable-encoded (e ∷ es) [] w p = absurd p
+readable-encoded [] (t ∷ ts) w p = absurd (false≢true p)
+readable-encoded (e ∷ es) [] w p = absurd (false≢true p)
 readable-encoded (e ∷ es) (t ∷ ts) w p =
-    let s = small e es (length t) w (p .0) in
+    let q = first-permitted e es t ts p in
+    let s = small e es (length t) w q in
     let r = encoded es ts in
-    rw (first-starts e t r (omega arith) (p .0), drop-first (e .tag) t r (omega arith)) (readable-encoded es ts (narrow-rest e es w) (p .1))
+    rw (first-starts e t r (omega arith) q, drop-first (e .tag) t r (omega arith)) (readable-encoded es ts (narrow-rest e es w) (rest-permitted e es t ts p))
 
 -- and each is read back
-pub content-encoded : (es : List FieldEntry) (ts : List (List ℕ)) → narrow es ≡ true → Permitted es ts → (k : ℕ) → k < length es → content k (encoded es ts) ≡ getD ts k []
-unfolding encoded Permitted
+pub content-encoded : (es : List FieldEntry) (ts : List (List ℕ)) → narrow es ≡ true → permits es (map length ts) ≡ true → (k : ℕ) → k < length es → content k (encoded es ts) ≡ getD ts k []
+unfolding encoded permits
 content-encoded [] ts w p k l = absurd (not-suc-le-zero l)
-content-encoded (e ∷ es) [] w p k l = absurd p
+content-encoded (e ∷ es) [] w p k l = absurd (false≢true p)
 content-encoded (e ∷ es) (t ∷ ts) w p zero l =
-    let s = small e es (length t) w (p .0) in
+    let s = small e es (length t) w (first-permitted e es t ts p) in
     content-first (e .tag) t (encoded es ts) (omega arith)
 content-encoded (e ∷ es) (t ∷ ts) w p (suc k) l =
-    let s = small e es (length t) w (p .0) in
-    content-suc k (field (e .tag) t ++ encoded es ts) ∙ rw (drop-first (e .tag) t (encoded es ts) (omega arith)) (content-encoded es ts (narrow-rest e es w) (p .1) k (le-of-suc-le-suc l))
+    let s = small e es (length t) w (first-permitted e es t ts p) in
+    content-suc k (field (e .tag) t ++ encoded es ts)
+    ∙ rw (drop-first (e .tag) t (encoded es ts) (omega arith)) (content-encoded es ts (narrow-rest e es w) (rest-permitted e es t ts p) k (le-of-suc-le-suc l))
 
--- texts that are the contents of m's fields, from field k on
-unfoldable pub Contents : ℕ → List (List ℕ) → List ℕ → Type 0
-Contents k [] m = Unit {0}
-Contents k (t ∷ ts) m = (t ≡ content k m) × Contents (suc k) ts m
+-- the contents of n fields of m, from field k on
+unfoldable pub contentsFrom : ℕ → ℕ → List ℕ → List (List ℕ)
+contentsFrom k zero m = []
+contentsFrom k (suc n) m = content k m ∷ contentsFrom (suc k) n m
 
-contents-rest : (k : ℕ) (ts : List (List ℕ)) (m : List ℕ) → Contents (suc k) ts m → Contents k ts (drop (3 + lengthAt m) m)
-unfolding Contents
-contents-rest k [] m h = tt
-contents-rest k (t ∷ ts) m h = (h .0 ∙ content-suc k m, contents-rest (suc k) ts m (h .1))
+contents-rest : (k n : ℕ) (m : List ℕ) → contentsFrom (suc k) n m ≡ contentsFrom k n (drop (3 + lengthAt m) m)
+unfolding contentsFrom
+contents-rest k zero m = refl
+contents-rest k (suc n) m = ap₂ (λ (t : List ℕ) (ts : List (List ℕ)). t ∷ ts) (content-suc k m) (contents-rest (suc k) n m)
 
 -- a first field, written again
-again : (t : ℕ) (m : List ℕ) → 3 + lengthAt m ≤ length m → lengthAt m < 256 → getD m 0 0 ≡ t → field t (content 0 m) ++ drop (3 + lengthAt m) m ≡ m
+again : (t : ℕ) (m : List ℕ) → 3 + lengthAt m ≤ length m → lengthAt m ≤ 255 → getD m 0 0 ≡ t → field t (content 0 m) ++ drop (3 + lengthAt m) m ≡ m
 unfolding content offset field
 again t [] h s e = absurd (let z : ⊥ = omega arith in z)
 again t (a ∷ []) h s e = absurd (let z : ⊥ = omega arith in z)
@@ -161,13 +183,12 @@ nil [] h = refl
 nil (x ∷ xs) h = absurd (let z : ⊥ = omega arith in z)
 
 -- a readable message is the contents of its fields, written again
-pub encoded-back : (es : List FieldEntry) (ts : List (List ℕ)) (m : List ℕ) → narrow es ≡ true → readable es m ≡ true → length ts ≡ length es → Contents 0 ts m → encoded es ts ≡ m
-unfolding encoded readable Contents
-encoded-back [] ts m w h l c = nil m (eqb-true (length m) 0 h)
-encoded-back (e ∷ es) [] m w h l c = absurd (let z : ⊥ = omega arith in z)
-encoded-back (e ∷ es) (t ∷ ts) m w h l c =
+pub encoded-back : (es : List FieldEntry) (m : List ℕ) → narrow es ≡ true → readable es m ≡ true → encoded es (contentsFrom 0 (length es) m) ≡ m
+unfolding encoded readable contentsFrom
+encoded-back [] m w h = nil m (eqb-true (length m) 0 h)
+encoded-back (e ∷ es) m w h =
     let s = first e es m h in
-    rw (encoded-back es ts (drop (3 + lengthAt m) m) (narrow-rest e es w) (rest e es m h) (omega arith) (contents-rest 0 ts m (c .1)), c .0)
+    rw (contents-rest 0 (length es) m, encoded-back es (drop (3 + lengthAt m) m) (narrow-rest e es w) (rest e es m h))
     (again (e .tag) m (starts-fits e m s) (small e es (lengthAt m) w (starts-length e m s)) (starts-tag e m s))
 
 -- fields written are as long as their heads and contents

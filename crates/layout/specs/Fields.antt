@@ -1,5 +1,7 @@
 -- The envelope (document 01, 'Envelope'): a message is fields one after the other. Assumes nothing.
-use mathlib.Core.Bool.{Bool, false, cond, _&&_, _||_}
+use mathlib.Core.Path.{_≡_}
+use mathlib.Core.Logic.{_⊎_}
+use mathlib.Core.Bool.{Bool, true, false, cond, _&&_, _||_}
 use mathlib.Core.List.{List, [], _∷_, _++_}
 use Prim.Native.Nat.{ℕ, zero, suc, _+_, _*_, _/_, _%_}
 use lib.Dec.{leb, eqb}
@@ -21,6 +23,17 @@ pub record FieldEntry : Type 0 where
 unfoldable pub oneOf : List ℕ → ℕ → Bool
 oneOf [] n = false
 oneOf (l ∷ ls) n = eqb n l || oneOf ls n
+
+-- the same as a fact, which of a list of one number is an equation
+abbrev pub IsOneOf : List ℕ → ℕ → Type 0
+IsOneOf [] n = ⊥
+IsOneOf (l ∷ []) n = n ≡ l
+IsOneOf (l ∷ k ∷ ls) n = (n ≡ l) ⊎ IsOneOf (k ∷ ls) n
+
+-- none of the numbers of a list is over n
+abbrev pub atMost : ℕ → List ℕ → Bool
+atMost n [] = true
+atMost n (l ∷ ls) = leb l n && atMost n ls
 
 -- the length that m's first head gives
 abbrev pub lengthAt : List ℕ → ℕ

@@ -1,13 +1,14 @@
 // Lines written into a lent space from its start. Of a reception s begins with its date and time, and m is its message.
 use digits::internal::put_digits;
+use envelope::application::Field;
+use envelope::internal::bytes_in;
 use errors::Errors;
-use layout::internal::contents;
 use output::internal::put;
 use output::internal::put_byte;
 use replies::internal::put_errors;
 ghost use mathlib.Core.Path.{_≡_};
 ghost use mathlib.Core.Bool.{true};
-ghost use mathlib.Core.List.{[], _∷_, _++_};
+ghost use mathlib.Core.List.{_++_};
 ghost use Prim.Native.Nat.{_+_, _≤_, _<_};
 ghost use lib.ListN.{length};
 ghost use Rattle.layout.specs.Fields.{readable};
@@ -15,13 +16,13 @@ ghost use Rattle.output.specs.Output.{Wrote};
 ghost use Rattle.texts.specs.Texts.{ascii};
 ghost use Rattle.envelope.specs.Application.{layout6G1};
 ghost use Rattle.errors.specs.Listed.{listed};
-ghost use Rattle.log.specs.Lines.{senderOf, confirmedLine, returnedLine, refusedLine};
-ghost use Rattle.log.specs.Steps.{dateIn, timeIn};
+ghost use Rattle.log.specs.Lines.{senderOf, refusedLine};
+ghost use Rattle.lines.specs.Parts.{clock, confirmedAt, returnedAt};
 
 // Writes the kind of a line, a blank, and the date and time of a reception.
 fn put_clock(space: &mut [u8], kind: u8, s: &[u8]) -> usize
     requires { ⌜ (17 ≤ length (now space)) × (14 ≤ length (now s)) ⌝ }
-    ensures { λ r. ⌜ Wrote (now (space .entry)) 0 ((kind ∷ []) ++ ascii " " ++ dateIn (now (s .entry)) ++ ascii " " ++ timeIn (now (s .entry))) (now (space .exit)) r × (r ≡ 17) ⌝ }
+    ensures { λ r. ⌜ Wrote (now (space .entry)) 0 (clock kind (now (s .entry))) (now (space .exit)) r × (r ≡ 17) ⌝ }
 {
     let first = put_byte(space, 0, kind);
     let date = put_byte(space, first, b' ');
@@ -30,22 +31,31 @@ fn put_clock(space: &mut [u8], kind: u8, s: &[u8]) -> usize
     put(space, time, &s[8..14])
 }
 
-// Writes a blank and the first five bytes of the sender of a message.
+// The first five bytes of the sender of a message.
+fn sender_in(m: &[u8]) -> &[u8]
+    requires { ⌜ readable layout6G1 (now m) ≡ true ⌝ }
+    ensures { λ r. ⌜ (now r ≡ senderOf (now (m .entry))) × (length (now r) ≡ 5) ⌝ }
+{
+    let sender = bytes_in(m, Field::Sender);
+    &sender[0..5]
+}
+
+// Writes a blank and those bytes.
 fn put_sender(space: &mut [u8], at: usize, m: &[u8]) -> usize
     requires { ⌜ readable layout6G1 (now m) ≡ true ⌝ }
     requires { ⌜ at + 6 ≤ length (now space) ⌝ }
     ensures { λ r. ⌜ Wrote (now (space .entry)) at (ascii " " ++ senderOf (now (m .entry))) (now (space .exit)) r × (r ≡ at + 6) ⌝ }
 {
-    let sender = contents(m, 1);
+    let sender = sender_in(m);
     let start = put_byte(space, at, b' ');
-    put(space, start, &sender[0..5])
+    put(space, start, sender)
 }
 
 // Writes the line of a confirmed reception.
 pub fn put_confirmed(space: &mut [u8], s: &[u8], m: &[u8]) -> usize
     requires { ⌜ readable layout6G1 (now m) ≡ true ⌝ }
     requires { ⌜ (14 ≤ length (now s)) × (24 ≤ length (now space)) ⌝ }
-    ensures { λ r. ⌜ Wrote (now (space .entry)) 0 (confirmedLine (dateIn (now (s .entry))) (timeIn (now (s .entry))) (now (m .entry))) (now (space .exit)) r ⌝ }
+    ensures { λ r. ⌜ Wrote (now (space .entry)) 0 (confirmedAt (now (s .entry)) (now (m .entry))) (now (space .exit)) r ⌝ }
 {
     let sender = put_clock(space, b'C', s);
     let end = put_sender(space, sender, m);
@@ -56,7 +66,7 @@ pub fn put_confirmed(space: &mut [u8], s: &[u8], m: &[u8]) -> usize
 pub fn put_returned(space: &mut [u8], s: &[u8], m: &[u8], e: Errors) -> usize
     requires { ⌜ readable layout6G1 (now m) ≡ true ⌝ }
     requires { ⌜ (0 < e .n) × (e .n ≤ 16) × (14 ≤ length (now s)) × (74 ≤ length (now space)) ⌝ }
-    ensures { λ r. ⌜ Wrote (now (space .entry)) 0 (returnedLine (dateIn (now (s .entry))) (timeIn (now (s .entry))) (now (m .entry)) (listed e)) (now (space .exit)) r ⌝ }
+    ensures { λ r. ⌜ Wrote (now (space .entry)) 0 (returnedAt (now (s .entry)) (now (m .entry)) (listed e)) (now (space .exit)) r ⌝ }
 {
     let sender = put_clock(space, b'R', s);
     let blank = put_sender(space, sender, m);

@@ -19,7 +19,7 @@ use Rattle.envelope.specs.declared.application.Field.the-variants.{Sender, Reci
 use Rattle.envelope.specs.declared.application.Fields.{Fields}
 use Rattle.envelope.specs.Refusals.{firstHolding}
 use Rattle.envelope.specs.Application.{layout6G1, fieldsOf, noFields, reading}
-use Rattle.envelope.proofs.Fields6G1.{whole-field, length-field}
+use Rattle.envelope.proofs.Promise.{whole-field, length-field}
 use Rattle.optes.specs.Interface.{hasField, numbered, fieldDigits, placeNumbered}
 
 -- a field that is there is whole

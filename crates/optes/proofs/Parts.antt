@@ -20,14 +20,14 @@ use Rattle.digits.specs.Decimal.{digitsOf, isNumber, numberIn}
 use Rattle.layout.specs.Fields.{lengthAt, starts, readable, offset, content}
 use Rattle.layout.proofs.Fields.{offset-within, content-at}
 use Rattle.layout.proofs.ReturnTrip.{whole-of}
+use Rattle.layout.proofs.Fixed.{fixed, first-length}
 use Rattle.places.specs.declared.Place.{Place}
 use Rattle.places.specs.Bids.{placeOf}
 use Rattle.envelope.specs.declared.application.Field.the-variants.{Bids}
 use Rattle.envelope.specs.declared.application.Fields.{Fields}
 use Rattle.envelope.specs.Refusals.{firstHolding}
 use Rattle.envelope.specs.Application.{one, layout6G1, bytesOf, fieldsOf}
-use Rattle.envelope.proofs.Fixed.{fixed, first-length}
-use Rattle.envelope.proofs.Fields6G1.{fields6G1}
+use Rattle.envelope.proofs.Promise.{fields6G1}
 use Rattle.optes.specs.Interface.{flag, hasField, startOf, fieldDigits, placeNumbered, placeAt}
 use Rattle.optes.specs.Numbers.{digitNumbers, placeNumbers, placesNumbers, textStarts, numbersOf, numbersRead}
 use Rattle.optes.proofs.Interface.{fields-read, digits-there, place-there}

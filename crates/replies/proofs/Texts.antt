@@ -12,44 +12,20 @@ use lib.Seq.{take-at, drop-at, drop-append-le, drop-drop, length-take-le, take-s
 use borrow.Author.Tests.{le-leb, lt-leb}
 use Rattle.digits.specs.Decimal.{digits}
 use Rattle.digits.proofs.Writing.{length-digits}
-use Rattle.layout.specs.Fields.{head, field, oneOf, readable}
-use Rattle.layout.proofs.ReturnTrip.{allBelow, narrow, Contents, encoded-back, sizes, length-encoded}
+use Rattle.layout.specs.Fields.{head, field, oneOf}
 use Rattle.texts.specs.Texts.{ascii}
-use Rattle.envelope.specs.declared.application.Field.the-variants.{MessageType, Sender, Recipient, Cro, Date, Time, Check, Identifier, Bids, Name}
-use Rattle.envelope.specs.Application.{layout6G1, bytesOf}
-use Rattle.envelope.proofs.Fields6G1.{length-field}
+use Rattle.envelope.specs.declared.application.Field.the-variants.{Sender, Cro}
+use Rattle.envelope.specs.Application.{bytesOf}
 use Rattle.rules.specs.Receiving.{Error}
 use Rattle.rules.specs.Replies.{confirmation, errorText, errorTexts, shown}
 use Rattle.errors.specs.Listed.{idcTable, idcIn, named}
-use Rattle.replies.specs.Texts.{rowIn, slashed}
+use Rattle.replies.specs.Texts.{rowIn, slashed, origin}
 
 -- sender and CRO written together
-pub confirmation-parts : (m identifier : List ℕ) (time : ℕ) → field 0x01 (ascii "6G2") ++ field 0x04 (ascii "01000") ++ (field 0x05 (bytesOf Sender m) ++ field 0x22 (bytesOf Cro m)) ++ field 0x60 (digits 6 time) ++ field 0x70 identifier ≡ confirmation identifier m time
+pub confirmation-parts : (m identifier : List ℕ) (time : ℕ) → field 0x01 (ascii "6G2") ++ field 0x04 (ascii "01000") ++ origin m ++ field 0x60 (digits 6 time) ++ field 0x70 identifier ≡ confirmation identifier m time
 unfolding confirmation
 confirmation-parts m identifier time =
     ap (λ (x : List ℕ). x ++ field 0x60 (digits 6 time) ++ field 0x70 identifier) (sym (append-assoc (field 0x01 (ascii "6G2") ++ field 0x04 (ascii "01000")) (field 0x05 (bytesOf Sender m)) (field 0x22 (bytesOf Cro m))))
-
--- a readable message has 339 bytes
-parts : List ℕ → List (List ℕ)
-parts m =
-    bytesOf MessageType m
-    ∷ bytesOf Sender m
-    ∷ bytesOf Recipient m
-    ∷ bytesOf Cro m
-    ∷ bytesOf Date m
-    ∷ bytesOf Time m
-    ∷ bytesOf Check m
-    ∷ bytesOf Identifier m
-    ∷ bytesOf Bids m
-    ∷ bytesOf Name m
-    ∷ []
-
-pub length-message : (m : List ℕ) → readable layout6G1 m ≡ true → length m ≡ 339
-unfolding layout6G1 parts narrow allBelow Contents sizes
-length-message m h =
-    sym (ap length (encoded-back layout6G1 (parts m) m refl h refl (refl, (refl, (refl, (refl, (refl, (refl, (refl, (refl, (refl, (refl, tt))))))))))))
-    ∙ length-encoded layout6G1 (parts m) refl
-    ∙ rw (length-field m h MessageType, length-field m h Sender, length-field m h Recipient, length-field m h Cro, length-field m h Date, length-field m h Time, length-field m h Check, length-field m h Identifier, length-field m h Bids, length-field m h Name)
 
 -- all lists of a table are w long: a test that antt computes
 abbrev allWide : ℕ → List (List ℕ) → Bool

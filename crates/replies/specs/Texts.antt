@@ -2,8 +2,10 @@
 use mathlib.Core.Bool.{cond}
 use mathlib.Core.List.{List, [], _∷_, _++_}
 use Prim.Native.Nat.{ℕ, suc}
-use Rattle.layout.specs.Fields.{oneOf}
+use Rattle.layout.specs.Fields.{field, oneOf}
 use Rattle.texts.specs.Texts.{ascii}
+use Rattle.envelope.specs.declared.application.Field.the-variants.{Sender, Cro}
+use Rattle.envelope.specs.Application.{bytesOf}
 use Rattle.rules.specs.Replies.{errorText}
 use Rattle.errors.specs.Listed.{named}
 
@@ -16,3 +18,7 @@ rowIn (row ∷ rows) code = cond (oneOf (row .0) code) 0 (suc (rowIn rows code))
 unfoldable pub slashed : List ℕ → List ℕ
 slashed [] = []
 slashed (code ∷ codes) = (ascii "/" ++ errorText (named code)) ++ slashed codes
+
+-- the sender and the CRO of a message as the recipient and the original CRO of its confirmation
+abbrev pub origin : List ℕ → List ℕ
+origin m = field 0x05 (bytesOf Sender m) ++ field 0x22 (bytesOf Cro m)

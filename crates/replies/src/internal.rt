@@ -1,24 +1,23 @@
 // Replies written straight from a message that was found readable into a space with room for them.
 use digits::internal::put_digits;
+use envelope::application::Field;
+use envelope::internal::bytes_in;
 use errors::Errors;
-use layout::internal::contents;
 use layout::internal::put_field;
 use layout::internal::put_head;
 use output::internal::put;
 use output::internal::put_byte;
 ghost use mathlib.Core.Path.{_≡_};
 ghost use mathlib.Core.Bool.{true};
-ghost use mathlib.Core.List.{_++_};
 ghost use Prim.Native.Nat.{_+_, _*_, _<_, _≤_, min};
 ghost use lib.ListN.{length, take, drop};
 ghost use Rattle.digits.specs.Decimal.{digits};
 ghost use Rattle.output.specs.Output.{Wrote};
 ghost use Rattle.layout.specs.Fields.{field, readable};
-ghost use Rattle.envelope.specs.declared.application.Field.the-variants.{Sender, Cro};
-ghost use Rattle.envelope.specs.Application.{layout6G1, bytesOf};
+ghost use Rattle.envelope.specs.Application.{layout6G1};
 ghost use Rattle.rules.specs.Replies.{confirmation, errorText, errorTexts, shown, returnedMessage};
 ghost use Rattle.errors.specs.Listed.{idcTable, idcIn, named, listed};
-ghost use Rattle.replies.specs.Texts.{rowIn, slashed};
+ghost use Rattle.replies.specs.Texts.{rowIn, slashed, origin};
 
 // The row of a code in the table of IDCs, the row past the last one where no row has it.
 fn row(code: u16) -> usize
@@ -137,10 +136,10 @@ pub fn put_returned(space: &mut [u8], m: &[u8], e: Errors) -> usize
 fn put_origin(space: &mut [u8], at: usize, m: &[u8]) -> usize
     requires { ⌜ readable layout6G1 (now m) ≡ true ⌝ }
     requires { ⌜ at + 22 ≤ length (now space) ⌝ }
-    ensures { λ r. ⌜ Wrote (now (space .entry)) at (field 0x05 (bytesOf Sender (now (m .entry))) ++ field 0x22 (bytesOf Cro (now (m .entry)))) (now (space .exit)) r × (r ≡ at + 22) ⌝ }
+    ensures { λ r. ⌜ Wrote (now (space .entry)) at (origin (now (m .entry))) (now (space .exit)) r × (r ≡ at + 22) ⌝ }
 {
-    let sender = contents(m, 1);
-    let cro = contents(m, 3);
+    let sender = bytes_in(m, Field::Sender);
+    let cro = bytes_in(m, Field::Cro);
     let original = put_field(space, at, 0x05, sender);
     put_field(space, original, 0x22, cro)
 }

@@ -24,7 +24,7 @@ same-requires-2 c κs = search needs
 
 returns : tie.Need-returns
 unfolding otherOrigin
-returns c = rw (c .before .before .before .same .ensures, c .same2 .ensures, c .before .before .before .before .before .bytes-in-6g0 .ensures, c .before .before .bytes-in-6g02 .ensures)
+returns c = rw (c .before .before .before .same .ensures, c .same2 .ensures, c .before .before .before .before .before .bytes-in-6g0 .ensures .0, c .before .before .bytes-in-6g02 .ensures .0)
 
 pub other-origin-spec : {M : Type 1} → statement M
 other-origin-spec =

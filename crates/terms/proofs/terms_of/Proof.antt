@@ -1,12 +1,8 @@
 -- `terms::terms_of` meets its contract. Assumes nothing.
 use borrow.Author.Needs.{needs}
 use mathlib.Core.Path.{ap, _∙_}
-use denote.Ref.{now}
-use lib.ListN.{length}
 use Rattle.digits.specs.Decimal.{numberIn}
-use Rattle.envelope.specs.declared.announcement.Field.the-variants.{Identifier}
 use Rattle.envelope.specs.declared.announcement.Announcement.{Announcement}
-use Rattle.envelope.proofs.Fields6G0.{length-field}
 use Rattle.rules.specs.Opening.{sideOf, termsOf}
 use Rattle.terms.proofs.terms_of.Statement.{statement}
 use Rattle.terms.proofs.terms_of.Tie as tie
@@ -18,7 +14,7 @@ bytes-in-6g0-requires : tie.Need-bytes-in-6g0-requires
 bytes-in-6g0-requires c κs = search needs
 
 eleven-requires : tie.Need-eleven-requires
-eleven-requires c κs = ap length (c .bytes-in-6g0 .ensures) ∙ length-field (now (c .before .before .before .before .before .before .before .before .before .before .args .m)) (c .before .before .before .before .before .before .before .before .before .before .pre .0) Identifier
+eleven-requires c κs = search needs
 
 number-of-requires : tie.Need-number-of-requires
 number-of-requires c κs = search needs
@@ -27,7 +23,7 @@ returns : tie.Need-returns
 unfolding termsOf
 returns c =
     let says = c .before .before .before .before .before .before .before .before .before .before .before .before .pre .1 in
-    let text = c .before .eleven .ensures ∙ c .before .before .bytes-in-6g0 .ensures in
+    let text = c .before .eleven .ensures ∙ c .before .before .bytes-in-6g0 .ensures .0 in
     let side = c .before .before .before .before .before .before .before .before .before .before .side-of .ensures ∙ ap (λ (a : Announcement). sideOf (a .kind)) says in
     let cutoff = c .number-of .ensures ∙ ap (λ (a : Announcement). numberIn (a .cutoff)) says in
     λ codes i.

@@ -7,26 +7,25 @@ use denote.Ref.{now}
 use Rattle.digits.specs.Decimal.{numberIn}
 use Rattle.envelope.specs.declared.announcement.Numbers.{Numbers}
 use Rattle.envelope.specs.Announcement.{widths, joined, characteristicsFrom, characteristicsOf}
-use Rattle.envelope.specs.Parts.{valuesOf, firstFormed, lastFormed}
+use Rattle.envelope.specs.Parts.{valuesOf, allNumbers}
 use Rattle.envelope.proofs.Parts.{joined-parts, values-parts, limit-fits}
 use Rattle.envelope.proofs.announcement.characteristics_of.Statement.{statement}
 use Rattle.envelope.proofs.announcement.characteristics_of.Tie as tie
 
 -- the test that the code makes is the definition's
-tested : (c : tie.After-last-formed) → joined 0 widths (now (c .before .before .before .before .args .s)) ≡ (c .before .first-formed .result && c .last-formed .result)
+tested : (c : tie.After-slashes-stand) → joined 0 widths (now (c .before .before .before .before .args .s)) ≡ (c .before .all-numbers .result && c .slashes-stand .result)
 tested c =
     let s = now (c .before .before .before .before .args .s) in
-    joined-parts s (c .before .before .before .before .pre)
-    ∙ sym (ap₂ _&&_ (c .before .first-formed .ensures ∙ ap (firstFormed s) (c .before .before .numbers-at .ensures)) (c .last-formed .ensures ∙ ap (lastFormed s) (c .before .before .numbers-at .ensures)))
+    joined-parts s (c .before .before .before .before .pre) ∙ sym (ap₂ _&&_ (c .before .all-numbers .ensures ∙ ap allNumbers (c .before .before .numbers-at .ensures)) (c .slashes-stand .ensures))
 
 numbers-at-requires : tie.Need-numbers-at-requires
 numbers-at-requires c κs = search needs
 
-first-formed-requires : tie.Need-first-formed-requires
-first-formed-requires c κs = search needs
+all-numbers-requires : tie.Need-all-numbers-requires
+all-numbers-requires c κs = search needs
 
-last-formed-requires : tie.Need-last-formed-requires
-last-formed-requires c κs = search needs
+slashes-stand-requires : tie.Need-slashes-stand-requires
+slashes-stand-requires c κs = search needs
 
 formed-characteristics-requires : tie.Need-formed-characteristics-requires
 formed-characteristics-requires c κs =
@@ -51,8 +50,8 @@ characteristics-of-spec =
     tie.close
     (tie.spec
     numbers-at-requires
-    first-formed-requires
-    last-formed-requires
+    all-numbers-requires
+    slashes-stand-requires
     formed-characteristics-requires
     no-characteristics-requires
     returns

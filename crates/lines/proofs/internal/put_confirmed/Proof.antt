@@ -2,7 +2,6 @@
 use borrow.Author.Needs.{needs}
 use Prim.Native.Nat.{zero-le}
 use denote.Ref.{now}
-use lib.ListN.{take, drop}
 use Rattle.output.proofs.Output.{then, said}
 use Rattle.lines.proofs.Parts.{confirmed-parts}
 use Rattle.lines.proofs.internal.put_confirmed.Statement.{statement}
@@ -26,7 +25,7 @@ returns c =
     let sender = c .before .before .before .before .before .before .put-sender in
     let end = c .before .before .put-byte in
     let a = c .before .before .before .before .before .before .before .before .before .before .before .before .before .before .before .args in
-    said (confirmed-parts (take 8 (now (a .s))) (take 6 (drop 8 (now (a .s)))) (now (a .m))) (then zero-le (then zero-le (clock .ensures .0) (sender .ensures .0)) (end .ensures))
+    said (confirmed-parts (now (a .s)) (now (a .m))) (then zero-le (then zero-le (clock .ensures .0) (sender .ensures .0)) (end .ensures))
 
 pub put-confirmed-spec : {M : Type 1} → statement M
 put-confirmed-spec =

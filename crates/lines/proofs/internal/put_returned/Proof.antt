@@ -2,7 +2,6 @@
 use borrow.Author.Needs.{needs}
 use Prim.Native.Nat.{zero-le}
 use denote.Ref.{now}
-use lib.ListN.{take, drop}
 use Rattle.errors.specs.Listed.{listed}
 use Rattle.output.proofs.Output.{then, said}
 use Rattle.lines.proofs.Parts.{returned-parts}
@@ -35,7 +34,7 @@ returns c =
     let errors = c .before .before .before .before .before .before .put-errors in
     let end = c .before .before .put-byte2 in
     let a = c .before .before .before .before .before .before .before .before .before .before .before .before .before .before .before .before .before .before .before .before .before .before .before .args in
-    said (returned-parts (take 8 (now (a .s))) (take 6 (drop 8 (now (a .s)))) (now (a .m)) (listed (a .e))) (then zero-le (then zero-le (then zero-le (then zero-le (clock .ensures .0) (sender .ensures .0)) (blank .ensures)) (errors .ensures .0)) (end .ensures))
+    said (returned-parts (now (a .s)) (now (a .m)) (listed (a .e))) (then zero-le (then zero-le (then zero-le (then zero-le (clock .ensures .0) (sender .ensures .0)) (blank .ensures)) (errors .ensures .0)) (end .ensures))
 
 pub put-returned-spec : {M : Type 1} → statement M
 put-returned-spec =

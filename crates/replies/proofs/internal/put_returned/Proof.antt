@@ -10,9 +10,10 @@ use lib.Seq.{length-take-le}
 use Rattle.output.proofs.Output.{said, then}
 use Rattle.layout.specs.Fields.{field}
 use Rattle.texts.specs.Texts.{ascii}
+use Rattle.envelope.proofs.Promise.{message-length}
 use Rattle.rules.specs.Receiving.{Error}
 use Rattle.rules.specs.Replies.{errorTexts, returnedMessage}
-use Rattle.replies.proofs.Texts.{length-message, errors-field}
+use Rattle.replies.proofs.Texts.{errors-field}
 use Rattle.replies.proofs.internal.put_returned.Statement.{statement}
 use Rattle.replies.proofs.internal.put_returned.Tie as tie
 
@@ -25,7 +26,7 @@ there c = omega arith
 
 put-requires : tie.Need-put-requires
 put-requires c κs =
-    let l = length-message (now (c .before .before .before .args .m)) (c .before .before .before .pre .0) in
+    let l = message-length (now (c .before .before .before .args .m)) (c .before .before .before .pre .0) in
     omega arith
 
 slice-aggregate-put-field : tie.Need-slice-aggregate-put-field
@@ -33,7 +34,7 @@ slice-aggregate-put-field c = search needs
 
 put-field-requires : tie.Need-put-field-requires
 put-field-requires c κs =
-    let l = length-message (now (c .before .before .before .before .before .before .before .before .args .m)) (c .before .before .before .before .before .before .before .before .pre .0) in
+    let l = message-length (now (c .before .before .before .before .before .before .before .before .args .m)) (c .before .before .before .before .before .before .before .before .pre .0) in
     omega arith
 
 shown-requires : tie.Need-shown-requires
@@ -47,12 +48,12 @@ sub-put-head c = search needs
 
 put-head-requires : tie.Need-put-head-requires
 put-head-requires c κs =
-    let l = length-message (now (c .before .before .before .before .before .before .before .before .before .before .before .before .before .args .m)) (c .before .before .before .before .before .before .before .before .before .before .before .before .before .pre .0) in
+    let l = message-length (now (c .before .before .before .before .before .before .before .before .before .before .before .before .before .args .m)) (c .before .before .before .before .before .before .before .before .before .before .before .before .before .pre .0) in
     omega arith
 
 put-texts-requires : tie.Need-put-texts-requires
 put-texts-requires c κs =
-    let l = length-message (now (c .before .before .before .before .before .before .before .before .before .before .before .before .before .before .before .before .before .args .m)) (c .before .before .before .before .before .before .before .before .before .before .before .before .before .before .before .before .before .pre .0) in
+    let l = message-length (now (c .before .before .before .before .before .before .before .before .before .before .before .before .before .before .before .before .before .args .m)) (c .before .before .before .before .before .before .before .before .before .before .before .before .before .before .before .before .before .pre .0) in
     omega arith
 
 same-length : tie.Need-same-length

@@ -2,7 +2,7 @@
 use borrow.Author.Needs.{needs}
 use native.Mathlib.Omega.{arith}
 use Rattle.output.proofs.Output.{then, said}
-use Rattle.envelope.proofs.Writing.{number-field}
+use Rattle.envelope.proofs.Promise.{number-field}
 use Rattle.replies.proofs.internal.put_time.Statement.{statement}
 use Rattle.replies.proofs.internal.put_time.Tie as tie
 

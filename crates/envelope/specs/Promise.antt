@@ -1,0 +1,26 @@
+-- What the envelope promises to those above it besides the contracts of its functions. Assumes nothing.
+use mathlib.Core.Path.{_≡_}
+use mathlib.Core.Bool.{true}
+use mathlib.Core.List.{List, _++_}
+use Prim.Native.Nat.{ℕ}
+use lib.ListN.{length}
+use Rattle.digits.specs.Decimal.{digits}
+use Rattle.layout.specs.Fields.{head, field, IsOneOf, readable, whole}
+use Rattle.envelope.specs.declared.application.Field.{Field}
+use Rattle.envelope.specs.Application.{entryOf, layout6G1, position, bytesOf}
+
+-- 'Whole: 339 bytes'
+abbrev pub MessageLength : Type 0
+MessageLength = (m : List ℕ) → readable layout6G1 m ≡ true → length m ≡ 339
+
+-- each field of a readable 6G1 is within it
+abbrev pub FieldWhole : Type 0
+FieldWhole = (m : List ℕ) → readable layout6G1 m ≡ true → (f : Field) → whole (position f) m ≡ true
+
+-- 'with exactly these lengths': each field of a readable 6G1 has one of its entry's
+abbrev pub FieldLength : Type 0
+FieldLength = (m : List ℕ) → readable layout6G1 m ≡ true → (f : Field) → IsOneOf (entryOf f .lengths) (length (bytesOf f m))
+
+-- a head that gives w bytes, and a number in w digits, are a field
+abbrev pub NumberField : Type 0
+NumberField = (tag w n : ℕ) → head tag w ++ digits w n ≡ field tag (digits w n)
