@@ -25,7 +25,7 @@ fn last_rate(o: Offer, m: MarginalRate) -> Rate
     }
 }
 
-// Allots an offer to bids and writes the awards, in book order; refused, it writes nothing. The space of the awards holds the keys of the bids until the awards are written.
+// Allots an offer to bids and writes the awards, in book order; refused, it writes nothing.
 pub fn allot(o: Offer, rates: &[u32], amounts: &[u64], awards: &mut [u64]) -> Allotment
     requires { ⌜ length (now rates) ≡ length (now amounts) ⌝ }
     requires { ⌜ length (now awards) ≡ length (now amounts) ⌝ }
@@ -38,7 +38,7 @@ pub fn allot(o: Offer, rates: &[u32], amounts: &[u64], awards: &mut [u64]) -> Al
             marginal: MarginalRate::None,
         };
     }
-    let marginal = marginal_rate(o, rates, amounts, awards);
+    let marginal = marginal_rate(o, rates, amounts);
     let last = last_rate(o, marginal);
     awards_at(o, rates, amounts, last, awards);
     Allotment {

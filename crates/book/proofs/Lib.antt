@@ -1,3 +1,4 @@
+pub mod Mapped
 pub mod Storing
 pub mod Empty
 pub mod Finding

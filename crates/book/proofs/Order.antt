@@ -62,12 +62,6 @@ side-by-side (suc n) [] xs h k = absurd (let z : _≡_ {A = ℕ} 0 1 = omega ari
 side-by-side (suc n) (r ∷ rs) [] h k = absurd (let z : _≡_ {A = ℕ} 0 1 = omega arith in omega arith)
 side-by-side (suc n) (r ∷ rs) (x ∷ xs) h k = ap (λ (l : List Bid). record { rate = r .0; amount = x .0 } ∷ l) (side-by-side n rs xs (omega arith) (omega arith) ∙ sym (bids-shifted r rs x xs 0 n))
 
--- what becomes of the element at an index
-pub mapped-at : {A B : Type 0} (f : A → B) (l : List A) (i : ℕ) (d : A) (z : B) → i < length l → f (getD l i d) ≡ getD (map f l) i z
-mapped-at f [] i d z h = absurd (let y : _≡_ {A = ℕ} 0 1 = omega arith in omega arith)
-mapped-at f (x ∷ l) zero d z h = refl
-mapped-at f (x ∷ l) (suc i) d z h = mapped-at f l i d z (omega arith)
-
 -- the bids of a book are the first places of its columns
 pub bids-in-columns : (b : Book) → length (b .rates) ≡ 640 → length (b .amounts) ≡ 640
     → bidsOf (take (10 * upTo64 (b .n)) (columnsOf b .rates)) (take (10 * upTo64 (b .n)) (columnsOf b .amounts)) ≡ bidsInBook (viewed b)
@@ -76,7 +70,7 @@ bids-in-columns b hr hx =
     side-by-side (10 * upTo64 (b .n)) (b .rates) (b .amounts) (omega (arith, s, hr)) (omega (arith, s, hx)) ∙ sym (bids-viewed b)
 
 -- a list there and back is what it was
-there-and-back : {A B : Type 0} (back : B → A) (there : A → B) → ((x : A) → back (there x) ≡ x) → (l : List A) → map back (map there l) ≡ l
+pub there-and-back : {A B : Type 0} (back : B → A) (there : A → B) → ((x : A) → back (there x) ≡ x) → (l : List A) → map back (map there l) ≡ l
 there-and-back back there h [] = refl
 there-and-back {A} back there h (x ∷ l) = ap₂ (λ (y : A) (ys : List A). y ∷ ys) (h x) (there-and-back back there h l)
 

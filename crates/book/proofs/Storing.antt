@@ -18,7 +18,7 @@ use Rattle.book.specs.declared.Book.{Book}
 use Rattle.book.specs.declared.Columns.{Columns}
 use Rattle.bids.specs.Columns.{noRate, noAmount, cents, bidsFrom}
 use Rattle.book.specs.Viewed.{hundredThousandths, rateOf, amountOf, bookOf, bookIn, heldAt, entryAt, entriesFrom, upTo64, viewed, replaced}
-use Rattle.book.proofs.Order.{mapped-at}
+use Rattle.book.proofs.Mapped.{mapped-at}
 
 module _ {A : Type 0} where
   getD-sets-low : (l : List A) (i : ℕ) (vs : List A) (p : ℕ) (d : A) → p < i → getD (sets l i vs) p d ≡ getD l p d

@@ -5,9 +5,11 @@ use internal::find_in;
 use places::Amount;
 use places::Rate;
 ghost use mathlib.Core.Path.{_≡_};
-ghost use lib.ListN.{take, replicate};
+ghost use mathlib.Core.List.{map};
+ghost use lib.ListN.{take};
 ghost use Rattle.rules.specs.Receiving.{newBook};
-ghost use Rattle.book.specs.Viewed.{upTo64, viewed, findFrom, columnsOf, bookIn};
+ghost use Rattle.bids.specs.Columns.{cents};
+ghost use Rattle.book.specs.Viewed.{hundredThousandths, rateOf, amountOf, upTo64, viewed, findFrom, columnsOf, bookIn};
 
 // For each code the time last accepted, whether there is one, and ten places from ten times its index on.
 pub struct Book {
@@ -71,30 +73,74 @@ pub fn find(b: Book, code: u64) -> Found
     find_in(&codes, b.n, code)
 }
 
+// The numbers of 640 rates.
+fn numbers_of(from: [Rate; 640]) -> [u32; 640]
+    ensures { λ r. ⌜ r ≡ map hundredThousandths from ⌝ }
+{
+    let mut numbers = [0u32; 640];
+    let mut i = 0;
+    while i < 640 {
+        numbers[i] = from[i].0;
+        i += 1;
+    }
+    numbers
+}
+
+// The eurocents of 640 amounts.
+fn cents_of(from: [Amount; 640]) -> [u64; 640]
+    ensures { λ r. ⌜ r ≡ map cents from ⌝ }
+{
+    let mut cents = [0u64; 640];
+    let mut i = 0;
+    while i < 640 {
+        cents[i] = from[i].0;
+        i += 1;
+    }
+    cents
+}
+
+// The rates of 640 numbers.
+fn rates_of(numbers: [u32; 640]) -> [Rate; 640]
+    ensures { λ r. ⌜ r ≡ map rateOf numbers ⌝ }
+{
+    let mut rates = [Rate(0); 640];
+    let mut i = 0;
+    while i < 640 {
+        rates[i] = Rate(numbers[i]);
+        i += 1;
+    }
+    rates
+}
+
+// The amounts of 640 numbers of eurocents, from 640 zeros on: an award or what a book holds for each place.
+pub fn amounts_of(cents: [u64; 640]) -> [Amount; 640]
+    ensures { λ r. ⌜ r ≡ map amountOf cents ⌝ }
+{
+    let mut amounts = [Amount(0); 640];
+    let mut i = 0;
+    while i < 640 {
+        amounts[i] = Amount(cents[i]);
+        i += 1;
+    }
+    amounts
+}
+
 // The columns of a book.
 pub fn columns_of(b: Book) -> Columns
     ensures { λ r. ⌜ r ≡ columnsOf b ⌝ }
 {
-    let from = b.rates;
-    let sums = b.amounts;
-    let mut rates = [0u32; 640];
-    let mut amounts = [0u64; 640];
-    let mut i = 0;
-    while i < 640 {
-        rates[i] = from[i].0;
-        amounts[i] = sums[i].0;
-        i += 1;
-    }
     let codes = b.codes;
     let held = b.held;
     let has = b.has;
+    let rates = b.rates;
+    let amounts = b.amounts;
     Columns {
         codes,
         n: b.n,
         held,
         has,
-        rates,
-        amounts,
+        rates: numbers_of(rates),
+        amounts: cents_of(amounts),
     }
 }
 
@@ -102,32 +148,17 @@ pub fn columns_of(b: Book) -> Columns
 pub fn book_of(c: Columns) -> Book
     ensures { λ r. ⌜ r ≡ bookIn c ⌝ }
 {
-    let from = c.rates;
-    let sums = c.amounts;
-    let mut rates = [Rate(0); 640];
-    let mut amounts = [Amount(0); 640];
-    let mut i = 0;
-    while i < 640 {
-        rates[i] = Rate(from[i]);
-        amounts[i] = Amount(sums[i]);
-        i += 1;
-    }
     let codes = c.codes;
     let held = c.held;
     let has = c.has;
+    let rates = c.rates;
+    let amounts = c.amounts;
     Book {
         codes,
         n: c.n,
         held,
         has,
-        rates,
-        amounts,
+        rates: rates_of(rates),
+        amounts: amounts_of(amounts),
     }
-}
-
-// The awards of 640 places before any is allotted.
-pub fn no_awards() -> [u64; 640]
-    ensures { λ r. ⌜ r ≡ replicate 640 0 ⌝ }
-{
-    [0; 640]
 }

@@ -101,8 +101,8 @@ fn walk(o: Offer, rates: &[u32], amounts: &[u64], keys: &mut [u64]) -> MarginalR
     first_reaching(o, rates, amounts, keys)
 }
 
-// The marginal rate of the bids; the space is for their keys, and what it holds afterwards is left open.
-pub fn marginal_rate(o: Offer, rates: &[u32], amounts: &[u64], keys: &mut [u64]) -> MarginalRate
+// The marginal rate of the bids by their keys, for which the space is; what it holds afterwards is left open.
+fn by_keys(o: Offer, rates: &[u32], amounts: &[u64], keys: &mut [u64]) -> MarginalRate
     requires { ⌜ length (now rates) ≡ length (now amounts) ⌝ }
     requires { ⌜ length (now amounts) ≤ 640 ⌝ }
     requires { ⌜ length (now amounts) ≤ length (now keys) ⌝ }
@@ -111,4 +111,19 @@ pub fn marginal_rate(o: Offer, rates: &[u32], amounts: &[u64], keys: &mut [u64])
 {
     let n = keys_in(o, rates, amounts, keys);
     walk(o, rates, amounts, &mut keys[0..n])
+}
+
+// The marginal rate of the bids. A space for keys is cleared first, so that few bids have a small one.
+pub fn marginal_rate(o: Offer, rates: &[u32], amounts: &[u64]) -> MarginalRate
+    requires { ⌜ length (now rates) ≡ length (now amounts) ⌝ }
+    requires { ⌜ length (now amounts) ≤ 640 ⌝ }
+    requires { ⌜ total (bidsOf (now rates) (now amounts)) ≤ mostBids ⌝ }
+    ensures { λ r. ⌜ rateIn r ≡ marginalRate (viewed o) (bidsOf (now (rates .entry)) (now (amounts .entry))) ⌝ }
+{
+    if amounts.len() <= 100 {
+        let mut few = [0u64; 100];
+        return by_keys(o, rates, amounts, &mut few);
+    }
+    let mut keys = [0u64; 640];
+    by_keys(o, rates, amounts, &mut keys)
 }

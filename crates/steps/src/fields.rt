@@ -6,7 +6,6 @@ use crate::internal::put_answer;
 use crate::internal::time_of;
 use crate::internal::up_to_65;
 use award_lines::internal::put_awards;
-use book::no_awards;
 use book::up_to_64;
 use digits::all_digits;
 use lines::internal::put_refused;
@@ -201,7 +200,7 @@ fn put_allotment<'a>(
 {
     let n = up_to_64(k);
     let end = 10 * n;
-    let mut awards = no_awards();
+    let mut awards = [0u64; 640];
     let answer = allot_bids(
         state,
         terms,

@@ -1,7 +1,7 @@
 -- What allotting gives: refused, zeros and the tender that came in; else the awards and the tender announced. Assumes nothing.
 use mathlib.Core.Path.{_≡_, refl, sym, ap, ap₂, subst, _∙_}
 use mathlib.Core.Bool.{Bool, true, false, cond}
-use mathlib.Core.List.{List, [], _∷_, _++_}
+use mathlib.Core.List.{List, [], _∷_, _++_, map}
 use mathlib.Core.Option.{Option, none, some}
 use Prim.Native.Nat.{ℕ, zero, suc, _-_, _≤_}
 use native.Mathlib.Nat.{sub-zero}
@@ -14,6 +14,10 @@ use Rattle.rules.specs.Allotment.{Bid, Offer, total, awards, marginalRate}
 use Rattle.rules.specs.Opening.{offerOf}
 use Rattle.rules.specs.Calls as rules
 use Rattle.rules.specs.Calls.{isRevoked, isOpen, isAnnounced, bidsExceed, allottingRefused, bidsInBook, allotment, notAllotted, allot}
+use Rattle.places.specs.declared.Amount.{Amount}
+use Rattle.bids.specs.Columns.{cents}
+use Rattle.book.specs.Viewed.{amountOf}
+use Rattle.book.proofs.Order.{there-and-back}
 use Rattle.offer.specs.Viewed.{mostBids}
 use Rattle.marginal.specs.Ranks.{rateIn}
 use Rattle.awards.proofs.Loops.{length-awards}
@@ -23,7 +27,7 @@ use Rattle.tender.specs.declared.Refusal.{Refusal}
 use Rattle.tender.specs.declared.Tender.{Tender}
 use Rattle.tender.specs.declared.Changed.{Changed}
 use Rattle.tender.specs.declared.internal.AllotAnswer.{AllotAnswer}
-use Rattle.tender.specs.Viewed.{viewed, Given, refusalNumber, isSome}
+use Rattle.tender.specs.Viewed.{viewed, refusalNumber, isSome}
 use Rattle.tender.specs.Calls.{Changes, Allots}
 use Rattle.tender.specs.Parts.{notClosed, awardedTo, AllotsBids}
 use Rattle.tender.proofs.Conditions.{refused-first, refused-later, kept-old}
@@ -91,9 +95,9 @@ zeros-after (suc m) (suc n) h =
     let e : n - m ≡ suc n - suc m = omega arith in
     zeros-after m n (omega arith) ∙ ap (λ (k : ℕ). replicate {A = ℕ} k 0) e
 
--- the awards of all places: those of the bids in the book, then zeros
-module _ (t : Tender) (g : Given t) (a : AllotAnswer) (c : Changed) (n : ℕ) (part zeros : List ℕ) (z : zeros ≡ replicate 640 0) (few : n ≤ 640) (long : length part ≡ n)
-    (awarded : AllotsBids t (take (n - 0) zeros) a part)
+-- the awards of all places, written from zeros on: those of the bids in the book, then zeros
+module _ (t : Tender) (a : AllotAnswer) (c : Changed) (n : ℕ) (part : List ℕ) (few : n ≤ 640) (long : length part ≡ n)
+    (awarded : AllotsBids t (take (n - 0) (replicate 640 0)) a part)
     (changed : Changes t (refusalNumber (a .refusal), unlessRefused (refusalNumber (a .refusal)) (viewed t) (rules.inState rules.Announced (viewed t))) c) where
   abbrev bs : List Bid
   bs = bidsInBook (viewed t .book)
@@ -101,17 +105,18 @@ module _ (t : Tender) (g : Given t) (a : AllotAnswer) (c : Changed) (n : ℕ) (p
   abbrev o : Offer
   o = offerOf (viewed t .terms)
 
-  last-zeros : drop (n - 0) zeros ≡ replicate (640 - n) 0
-  last-zeros = ap₂ (λ (k : ℕ) (l : List ℕ). drop k l) (sub-zero n) z ∙ zeros-after n 640 few
+  -- the cents of all places
+  abbrev pub whole : List ℕ
+  whole = part ++ drop (n - 0) (replicate 640 0)
 
-  all-zeros : take (n - 0) zeros ++ drop (n - 0) zeros ≡ replicate 640 0
-  all-zeros = take-append-drop (n - 0) zeros ∙ z
+  last-zeros : drop {A = ℕ} (n - 0) (replicate 640 0) ≡ replicate (640 - n) 0
+  last-zeros = ap (λ (k : ℕ). drop {A = ℕ} k (replicate 640 0)) (sub-zero n) ∙ zeros-after n 640 few
 
   given-by : (l : Option ℕ) → refusalNumber (a .refusal) ≡ l
-      → _≡_ {A = rules.Allotted} (record { awards = part ++ drop (n - 0) zeros; marginal = rateIn (a .marginal) }) (unlessRefused l notAllotted (allotment (viewed t .terms) bs))
+      → _≡_ {A = rules.Allotted} (record { awards = whole; marginal = rateIn (a .marginal) }) (unlessRefused l notAllotted (allotment (viewed t .terms) bs))
   unfolding allotment
   given-by none e =
-      let p = awarded .awarded ∙ ap (λ (l : Option ℕ). unlessRefused l (none, take (n - 0) zeros) (awardedTo (viewed t))) e in
+      let p = awarded .awarded ∙ ap (λ (l : Option ℕ). unlessRefused l (none, take (n - 0) (replicate 640 0)) (awardedTo (viewed t))) e in
       let is : part ≡ awards o bs = ap (λ (x : Option ℕ × List ℕ). x .1) p in
       let many : n ≡ length bs = sym long ∙ ap length is ∙ length-awards o bs in
       λ i. record {
@@ -119,19 +124,22 @@ module _ (t : Tender) (g : Given t) (a : AllotAnswer) (c : Changed) (n : ℕ) (p
         marginal = (ap (λ (x : Option ℕ × List ℕ). x .0) p ∙ sym (marginal-640 o bs)) i;
       }
   given-by (some k) e =
-      let p = awarded .awarded ∙ ap (λ (l : Option ℕ). unlessRefused l (none, take (n - 0) zeros) (awardedTo (viewed t))) e in
+      let p = awarded .awarded ∙ ap (λ (l : Option ℕ). unlessRefused l (none, take (n - 0) (replicate 640 0)) (awardedTo (viewed t))) e in
       λ i. record {
-        awards = (ap (λ (x : Option ℕ × List ℕ). x .1 ++ drop (n - 0) zeros) p ∙ all-zeros) i;
+        awards = (ap (λ (x : Option ℕ × List ℕ). x .1 ++ drop (n - 0) (replicate 640 0)) p ∙ take-append-drop (n - 0) (replicate 640 0)) i;
         marginal = ap (λ (x : Option ℕ × List ℕ). x .0) p i;
       }
 
-  pub allots : c .refusal ≡ a .refusal → Allots t (record { refusal = a .refusal; tender = c .tender; awards = part ++ drop (n - 0) zeros; marginal = a .marginal })
+  -- the awards as amounts
+  pub allots : (xs : List Amount) → xs ≡ map amountOf whole → c .refusal ≡ a .refusal → Allots t (record { refusal = a .refusal; tender = c .tender; awards = xs; marginal = a .marginal })
   unfolding allot
-  allots same =
+  allots xs e same =
       let number = awarded .number in
+      let back : map cents xs ≡ whole = ap (map cents) e ∙ there-and-back cents amountOf (λ v. refl) whole in
+      let is : _≡_ {A = rules.Allotted} (record { awards = map cents xs; marginal = rateIn (a .marginal) }) (record { awards = whole; marginal = rateIn (a .marginal) }) = λ i. record { awards = back i; marginal = rateIn (a .marginal) } in
       record {
         equal =
-            (λ i. (refusalNumber (a .refusal), ap (λ (x : Option ℕ × rules.Tender). x .1) (changed .equal) i, given-by (refusalNumber (a .refusal)) refl i))
+            (λ i. (refusalNumber (a .refusal), ap (λ (x : Option ℕ × rules.Tender). x .1) (changed .equal) i, (is ∙ given-by (refusalNumber (a .refusal)) refl) i))
             ∙ ap (λ (l : Option ℕ). (l, unlessRefused l (viewed t) (rules.inState rules.Announced (viewed t)), unlessRefused l notAllotted (allotment (viewed t .terms) bs))) number;
         unchanged = subst (λ (r : Refusal). c .tender ≡ unlessRefused (refusalNumber r) t (c .tender)) same (changed .unchanged);
         given = changed .given;

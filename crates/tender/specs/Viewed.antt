@@ -1,7 +1,7 @@
 -- The code's tender, refusals and answers as document 01's. Assumes nothing.
 use mathlib.Core.Path.{_≡_}
 use mathlib.Core.Bool.{Bool, true, false, cond, not, _&&_}
-use mathlib.Core.List.{List, []}
+use mathlib.Core.List.{List, [], map}
 use mathlib.Core.Option.{Option, none, some}
 use Prim.Native.Nat.{ℕ}
 use lib.Dec.{eqb}
@@ -11,7 +11,7 @@ use Rattle.rules.specs.Calls as rules
 use Rattle.errors.specs.Listed.{listed}
 use Rattle.terms.specs.declared.Terms.{Terms}
 use Rattle.terms.specs.Viewed as terms
-use Rattle.bids.specs.Columns.{bidsFrom}
+use Rattle.bids.specs.Columns.{cents, bidsFrom}
 use Rattle.book.specs.declared.Book.{Book}
 use Rattle.book.specs.Viewed as book
 use Rattle.marginal.specs.Ranks.{rateIn}
@@ -102,4 +102,4 @@ leftBy t o = record { terms = t .terms; state = t .state; book = entriesAfter (t
 
 -- what allotting gives
 abbrev pub allottedIn : Allotted → rules.Allotted
-allottedIn a = record { awards = a .awards; marginal = rateIn (a .marginal) }
+allottedIn a = record { awards = map cents (a .awards); marginal = rateIn (a .marginal) }

@@ -2,9 +2,9 @@
 pub mod internal;
 
 use book::Book;
+use book::amounts_of;
 use book::columns_of;
 use book::new_book;
-use book::no_awards;
 use book::up_to_64;
 use calendar::valid_date;
 use calendar::valid_time;
@@ -16,6 +16,7 @@ use internal::held_in;
 use internal::outcome_of;
 use internal::revoke_refusal;
 use marginal::MarginalRate;
+use places::Amount;
 use reception::internal::put_reply;
 use terms::OpenAnswer;
 use terms::Terms;
@@ -79,11 +80,11 @@ pub struct Changed {
     pub tender: Tender,
 }
 
-// The awards of all places in book order, in eurocents, and the marginal rate: zeros and none where allotting is refused.
+// The awards of all places in book order and the marginal rate: zeros and none where allotting is refused.
 pub struct Allotted {
     pub refusal: Refusal,
     pub tender: Tender,
-    pub awards: [u64; 640],
+    pub awards: [Amount; 640],
     pub marginal: MarginalRate,
 }
 
@@ -298,13 +299,13 @@ impl Tender {
         let rates = columns.rates;
         let amounts = columns.amounts;
         let end = 10 * up_to_64(book.n);
-        let mut awards = no_awards();
+        let mut cents = [0u64; 640];
         let answer = allot_bids(
             state,
             terms,
             &rates[0..end],
             &amounts[0..end],
-            &mut awards[0..end],
+            &mut cents[0..end],
         );
         let refusal = answer.refusal;
         let marginal = answer.marginal;
@@ -312,7 +313,7 @@ impl Tender {
         Allotted {
             refusal,
             tender,
-            awards,
+            awards: amounts_of(cents),
             marginal,
         }
     }

@@ -192,19 +192,19 @@ pub fn state_after(t: Tender) {
 }
 
 // One award above zero, with its counterparty and place.
-fn award(b: Book, i: usize, awarded: u64) {
-    if 0 < awarded {
+fn award(b: Book, i: usize, awarded: Amount) {
+    if 0 < awarded.0 {
         if i < 640 {
             printing::number(b.codes[i / 10] as u64);
             printing::text(b" place");
             printing::number((i % 10) as u64 + 1);
-            printing::number(awarded);
+            printing::number(awarded.0);
         }
     }
 }
 
 // The awards above zero in book order.
-pub fn awards(b: Book, awarded: [u64; 640]) {
+pub fn awards(b: Book, awarded: [Amount; 640]) {
     let mut i = 0;
     while i < 640 {
         award(b, i, awarded[i]);

@@ -6,6 +6,7 @@ use crate::parts::part;
 use crate::parts::rest;
 use crate::steps;
 use marginal::MarginalRate;
+use places::Amount;
 use tender::Allotted;
 use tender::Tender;
 ghost use Rattle.tender.specs.Viewed.{Given};
@@ -51,11 +52,11 @@ fn allotted(order: &[u8]) -> Allotted {
 }
 
 // Whether all awards are equal.
-fn same_awards(a: [u64; 640], b: [u64; 640]) -> bool {
+fn same_awards(a: [Amount; 640], b: [Amount; 640]) -> bool {
     let mut same = true;
     let mut i = 0;
     while i < 640 {
-        same = same & (a[i] == b[i]);
+        same = same & (a[i].0 == b[i].0);
         i += 1;
     }
     same

@@ -35,25 +35,23 @@ within : (c : tie.Else1) → (let a = c .before .before .before .before .before 
 within c = ltb-false _ _ (sym (tested (c .before)) ∙ c .if1 .left)
 
 marginal-rate-requires : tie.Need-marginal-rate-requires
-marginal-rate-requires c κs =
-    let start = c .before .before .before .before .before .before in
-    (start .pre .0, (start .pre .1 .1, (search needs, within (c .before))))
+marginal-rate-requires c κs = let start = c .before .before .before .before .before in (start .pre .0, (start .pre .1 .1, within c))
 
 last-rate-requires : tie.Need-last-rate-requires
 last-rate-requires c κs = search needs
 
 awards-at-requires : tie.Need-awards-at-requires
 awards-at-requires c κs =
-    let start = c .before .before .before .before .before .before .before .before .before .before .before in
+    let start = c .before .before .before .before .before .before .before .before in
     let a = start .args in
     let o = viewed (a .o) in
     let bs = bidsOf (now (a .rates)) (now (a .amounts)) in
-    let m = c .before .before .before .before .marginal-rate in (
+    let m = c .before .before .marginal-rate in (
       start .pre .0,
       (
         search needs,
         (
-          within (c .before .before .before .before .before .before),
+          within (c .before .before .before),
           subst (λ (r : ℕ). LastRate o bs r) (sym (c .before .last-rate .ensures)) (last-is o bs (rateIn (m .result)) (sym (m .ensures))),
         ),
       ),
@@ -64,10 +62,10 @@ same-length c = search needs
 
 returns-2 : tie.Need-returns-2
 returns-2 c =
-    let a = c .before .before .before .before .before .before .before .before .before .before .before .before .before .before .args in
-    let e = c .before .before .before .before .before .before .before .before .before in
+    let e = c .before .before .before .before .before .before in
+    let a = e .before .before .before .before .before .args in
     computed (viewed (a .o)) (bidsOf (now (a .rates)) (now (a .amounts))) (now (a .awards)) _ _ (sym (tested (e .before)) ∙ e .if1 .left)
-    (c .before .before .before .before .before .before .before .marginal-rate .ensures)
+    (c .before .before .before .before .before .marginal-rate .ensures)
     (c .before .before .awards-at .ensures)
 
 pub allot-spec : {M : Type 1} → statement M

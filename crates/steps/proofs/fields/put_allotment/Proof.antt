@@ -7,7 +7,7 @@ use Prim.Native.Nat.{ℕ, _*_, _-_, _≤_}
 use native.Mathlib.Nat.{sub-zero}
 use native.Mathlib.Omega.{arith}
 use denote.Ref.{now}
-use lib.ListN.{length, take, drop, length-replicate, length-append}
+use lib.ListN.{length, take, drop, replicate, length-replicate, length-append}
 use Rattle.output.specs.Output.{Wrote}
 use Rattle.output.proofs.Output.{said}
 use Rattle.envelope.specs.Refusals.{unlessRefused}
@@ -38,8 +38,9 @@ up-to-64-requires c κs = search needs
 few : (c : tie.After-up-to-64) → c .up-to-64 .result ≤ 64
 few c = omega (arith, c .up-to-64 .ensures, upTo64-small (c .before .before .before .before .before .args .k) .0)
 
-room : (c : tie.After-no-awards) → length (c .no-awards .result) ≡ 640
-room c = ap length (c .no-awards .ensures) ∙ length-replicate {A = ℕ} 640 0
+-- the awards are written from 640 zeros on
+room : length {A = ℕ} (replicate 640 0) ≡ 640
+room = length-replicate {A = ℕ} 640 0
 
 -- a book that lends these columns
 bookWith : tie.Start → List ℕ → List Bool → Book
@@ -60,9 +61,6 @@ bids-are c held has =
 mul-end : tie.Need-mul-end
 mul-end c = let e = few c in omega (arith, e)
 
-no-awards-requires : tie.Need-no-awards-requires
-no-awards-requires c κs = search needs
-
 sub-allot-bids : tie.Need-sub-allot-bids
 sub-allot-bids c = search needs
 
@@ -71,9 +69,8 @@ part-allot-bids-start c = search needs
 
 part-allot-bids-end : tie.Need-part-allot-bids-end
 part-allot-bids-end c =
-    let u = c .before in
-    let e = few u in
-    omega (arith, e, u .before .before .before .before .before .pre .0 .1)
+    let e = few c in
+    omega (arith, e, c .before .before .before .before .before .pre .0 .1)
 
 sub-allot-bids-2 : tie.Need-sub-allot-bids-2
 sub-allot-bids-2 c = search needs
@@ -83,7 +80,7 @@ part-allot-bids-start-2 c = search needs
 
 part-allot-bids-end-2 : tie.Need-part-allot-bids-end-2
 part-allot-bids-end-2 c =
-    let u = c .before .before in
+    let u = c .before in
     let e = few u in
     omega (arith, e, u .before .before .before .before .before .pre .0 .2)
 
@@ -94,30 +91,25 @@ part-awards-start : tie.Need-part-awards-start
 part-awards-start c = search needs
 
 part-awards-end : tie.Need-part-awards-end
-part-awards-end c =
-    let e = few (c .before .before .before) in
-    let r = room (c .before .before) in
-    omega (arith, e, r)
+part-awards-end c = let e = few (c .before .before) in omega (arith, e, room)
 
 allot-bids-requires : tie.Need-allot-bids-requires
 allot-bids-requires c κs =
-    let u = c .before .before .before .before in
+    let u = c .before .before .before in
     let start = u .before .before .before .before .before in
     let e = few u in
-    let r = room (c .before .before .before) in
     let n = 10 * u .up-to-64 .result in
     let rates = lent-length (now (start .args .rates)) n (omega (arith, e, start .pre .0 .1)) in
     let amounts = lent-length (now (start .args .amounts)) n (omega (arith, e, start .pre .0 .2)) in
-    let awards = lent-length (c .before .before .before .no-awards .result) n (omega (arith, e, r)) in
+    let awards = lent-length (replicate 640 0) n (omega (arith, e, room)) in
     (omega (arith, rates, amounts), omega (arith, amounts, awards), omega (arith, amounts, e))
 
 -- the awards that were written are as long as what was lent
-awards-long : (c : tie.After-allot-bids) → length (c .allot-bids .last .1 .1 .1 .1 .0) ≡ 10 * c .before .before .before .before .before .up-to-64 .result
+awards-long : (c : tie.After-allot-bids) → length (c .allot-bids .last .1 .1 .1 .1 .0) ≡ 10 * c .before .before .before .before .up-to-64 .result
 awards-long c =
-    let u = c .before .before .before .before .before in
+    let u = c .before .before .before .before in
     let e = few u in
-    let r = room (c .before .before .before .before) in
-    c .allot-bids .kept .1 .1 .1 .1 .0 ∙ lent-length (c .before .before .before .before .no-awards .result) (10 * u .up-to-64 .result) (omega (arith, e, r))
+    c .allot-bids .kept .1 .1 .1 .1 .0 ∙ lent-length (replicate 640 0) (10 * u .up-to-64 .result) (omega (arith, e, room))
 
 is-refused-requires : tie.Need-is-refused-requires
 is-refused-requires c κs = search needs
@@ -138,7 +130,7 @@ returns : tie.Need-returns
 unfolding bookWith
 returns c held has =
     let k = c .before .before .before .before .before .before .before .before .before in
-    let u = k .before .before .before .before .before in
+    let u = k .before .before .before .before in
     let start = u .before .before .before .before .before in
     let b = bookWith start held has in
     let t : Tender = tenderOf (start .args .state) (start .args .terms) b in
@@ -160,7 +152,7 @@ part-put-awards-start c = search needs
 
 part-put-awards-end : tie.Need-part-put-awards-end
 part-put-awards-end c =
-    let u = c .before .before .before .before .before .before .before .before .before in
+    let u = c .before .before .before .before .before .before .before .before in
     let e = few u in
     omega (arith, e, u .before .before .before .before .before .pre .0 .0)
 
@@ -172,7 +164,7 @@ part-put-awards-start-2 c = search needs
 
 part-put-awards-end-2 : tie.Need-part-put-awards-end-2
 part-put-awards-end-2 c =
-    let u = c .before .before .before .before .before .before .before .before .before .before in
+    let u = c .before .before .before .before .before .before .before .before .before in
     let e = few u in
     omega (arith, e, u .before .before .before .before .before .pre .0 .1)
 
@@ -186,18 +178,18 @@ part-put-awards-end-3 : tie.Need-part-put-awards-end-3
 part-put-awards-end-3 c =
     let k = c .before .before .before .before .before .before .before in
     let r = awards-long k in
-    omega (arith, r, length-append (k .allot-bids .last .1 .1 .1 .1 .0) (drop (10 * k .before .before .before .before .before .up-to-64 .result - 0) (k .before .before .before .before .no-awards .result)))
+    omega (arith, r, length-append (k .allot-bids .last .1 .1 .1 .1 .0) (drop (10 * k .before .before .before .before .up-to-64 .result - 0) (replicate 640 0)))
 
 put-awards-requires : tie.Need-put-awards-requires
 put-awards-requires c κs =
     let k = c .before .before .before .before .before .before .before .before in
-    let u = k .before .before .before .before .before in
+    let u = k .before .before .before .before in
     let start = u .before .before .before .before .before in
     let n = u .up-to-64 .result in
     let e = few u in
     let cs = lent-length (now (start .args .admitted)) n (omega (arith, e, start .pre .0 .0)) in
     let rs = lent-length (now (start .args .rates)) (10 * n) (omega (arith, e, start .pre .0 .1)) in
-    let xs = ap length (lent-again (k .allot-bids .last .1 .1 .1 .1 .0) (drop (10 * n - 0) (k .before .before .before .before .no-awards .result)) (10 * n) (awards-long k)) ∙ awards-long k in
+    let xs = ap length (lent-again (k .allot-bids .last .1 .1 .1 .1 .0) (drop (10 * n - 0) (replicate 640 0)) (10 * n) (awards-long k)) ∙ awards-long k in
     (rs ∙ sym (ap (λ (m : ℕ). 10 * m) cs), xs ∙ sym (ap (λ (m : ℕ). 10 * m) cs), omega (arith, xs, e, start .pre .1))
 
 with-change-requires-2 : tie.Need-with-change-requires-2
@@ -210,7 +202,7 @@ returns-2 : tie.Need-returns-2
 unfolding bookWith
 returns-2 c held has =
     let k = c .before .before .before .before .before .before .before .before .before .before .before .before in
-    let u = k .before .before .before .before .before in
+    let u = k .before .before .before .before in
     let start = u .before .before .before .before .before in
     let b = bookWith start held has in
     let t : Tender = tenderOf (start .args .state) (start .args .terms) b in
@@ -220,7 +212,7 @@ returns-2 c held has =
     let w = c .before .before .before .put-awards in
     let q = c .with-change2 .ensures in
     let e = k .allot-bids .ensures b (bids-are u held has) in
-    let xs = lent-again (k .allot-bids .last .1 .1 .1 .1 .0) (drop (10 * n - 0) (k .before .before .before .before .no-awards .result)) (10 * n) (awards-long k) in
+    let xs = lent-again (k .allot-bids .last .1 .1 .1 .1 .0) (drop (10 * n - 0) (replicate 640 0)) (10 * n) (awards-long k) in
     let codes = codes-viewed b (start .pre .0 .0) ∙ ap (λ (m : ℕ). take m (now (start .args .admitted))) (sym (u .up-to-64 .ensures) ∙ sym (sub-zero n)) in
     record {
       lines = subst (Wrote _ 0 _ _) (sym (q .0)) (said (lines-awarded (tender.viewed t) l (e .number) h _ (xs ∙ awards-told e h)) (w .ensures b (take (10 * n - 0) (now (start .args .amounts))) codes (bids-are u held has)));
@@ -233,7 +225,6 @@ put-allotment-spec =
     (tie.spec
     up-to-64-requires
     mul-end
-    no-awards-requires
     sub-allot-bids
     part-allot-bids-start
     part-allot-bids-end

@@ -3,7 +3,7 @@ use mathlib.Core.Path.{_≡_, ap, ap₂, _∙_}
 use Prim.Native.Nat.{ℕ, _*_, _-_, _≤_}
 use native.Mathlib.Nat.{sub-zero}
 use native.Mathlib.Omega.{arith}
-use lib.ListN.{length, take, length-replicate}
+use lib.ListN.{length, take, replicate, length-replicate}
 use Rattle.laws.proofs.Arrays.{length-mapped}
 use Rattle.bids.specs.Columns.{bidsOf}
 use Rattle.rules.specs.Calls.{bidsInBook}
@@ -26,21 +26,15 @@ up-to-64-requires c κs = search needs
 few : (c : tie.After-up-to-64) → 10 * c .up-to-64 .result ≤ 640
 few c = omega (arith, c .up-to-64 .ensures, upTo64-small (c .before .before .before .before .before .before .args .self .book .n) .0)
 
--- the columns and the awards have 640 places
+-- the columns have 640 places
 rates-long : (c : tie.After-columns-of) → length (c .columns-of .result .rates) ≡ 640
 rates-long c = search needs
 
 amounts-long : (c : tie.After-columns-of) → length (c .columns-of .result .amounts) ≡ 640
 amounts-long c = search needs
 
-room : (c : tie.After-no-awards) → length (c .no-awards .result) ≡ 640
-room c = ap length (c .no-awards .ensures) ∙ length-replicate {A = ℕ} 640 0
-
 mul-end : tie.Need-mul-end
 mul-end c = let e = few c in omega (arith, e)
-
-no-awards-requires : tie.Need-no-awards-requires
-no-awards-requires c κs = search needs
 
 sub-allot-bids : tie.Need-sub-allot-bids
 sub-allot-bids c = search needs
@@ -50,7 +44,7 @@ part-allot-bids-start c = search needs
 
 part-allot-bids-end : tie.Need-part-allot-bids-end
 part-allot-bids-end c =
-    let u = c .before .before in
+    let u = c .before in
     let e = few u in
     let r = rates-long (u .before .before .before) in
     omega (arith, e, r)
@@ -63,7 +57,7 @@ part-allot-bids-start-2 c = search needs
 
 part-allot-bids-end-2 : tie.Need-part-allot-bids-end-2
 part-allot-bids-end-2 c =
-    let u = c .before .before .before .before in
+    let u = c .before .before .before in
     let e = few u in
     let r = amounts-long (u .before .before .before) in
     omega (arith, e, r)
@@ -71,25 +65,24 @@ part-allot-bids-end-2 c =
 sub-allot-bids-3 : tie.Need-sub-allot-bids-3
 sub-allot-bids-3 c = search needs
 
-part-awards-start : tie.Need-part-awards-start
-part-awards-start c = search needs
+part-cents-start : tie.Need-part-cents-start
+part-cents-start c = search needs
 
-part-awards-end : tie.Need-part-awards-end
-part-awards-end c =
-    let e = few (c .before .before .before .before .before) in
-    let r = room (c .before .before .before .before) in
-    omega (arith, e, r)
+part-cents-end : tie.Need-part-cents-end
+part-cents-end c =
+    let e = few (c .before .before .before .before) in
+    omega (arith, e, length-replicate {A = ℕ} 640 0)
 
 allot-bids-requires : tie.Need-allot-bids-requires
 allot-bids-requires c κs =
-    let u = c .before .before .before .before .before .before in
+    let u = c .before .before .before .before .before in
     let k = u .before .before .before in
     let n = 10 * u .up-to-64 .result in
     let e = few u in
     let rates = lent-length (k .columns-of .result .rates) n (let r = rates-long k in omega (arith, e, r)) in
     let amounts = lent-length (k .columns-of .result .amounts) n (let r = amounts-long k in omega (arith, e, r)) in
-    let awards = lent-length (c .before .before .before .before .before .no-awards .result) n (let r = room (c .before .before .before .before .before) in omega (arith, e, r)) in
-    (omega (arith, rates, amounts), omega (arith, amounts, awards), omega (arith, amounts, e))
+    let cents = lent-length (replicate 640 0) n (omega (arith, e, length-replicate {A = ℕ} 640 0)) in
+    (omega (arith, rates, amounts), omega (arith, amounts, cents), omega (arith, amounts, e))
 
 in-state-unless-requires : tie.Need-in-state-unless-requires
 in-state-unless-requires c κs = search needs
@@ -111,19 +104,20 @@ bids-are c =
     ap₂ (λ (n : ℕ) (k : Columns). bidsOf (take n (k .rates)) (take n (k .amounts))) (sub-zero _ ∙ ap (λ (n : ℕ). 10 * n) (c .up-to-64 .ensures)) (c .before .before .before .columns-of .ensures)
     ∙ bids-in-columns b (book-rates start) (book-amounts start)
 
+amounts-of-requires : tie.Need-amounts-of-requires
+amounts-of-requires c κs = search needs
+
 returns : tie.Need-returns
 returns c =
     let u = c .before .before .before .before .before .before .before .before .before .before in
     let start = u .before .before .before .before .before .before in
-    let a = c .before .before .before .allot-bids in
+    let a = c .before .before .before .before .allot-bids in
     let n = 10 * u .up-to-64 .result in
-    let zeros = c .before .before .before .before .before .before .before .before .before in
-    let r = room zeros in
     let e = few u in
-    let s = c .before .in-state-unless in
-    allots (start .args .self) (start .pre) (a .result) (s .result) n (a .last .1 .1 .1 .1 .0) (zeros .no-awards .result) (zeros .no-awards .ensures) e
-    (a .kept .1 .1 .1 .1 .0 ∙ lent-length (zeros .no-awards .result) n (omega (arith, e, r)))
-    (a .ensures (start .args .self .book) (bids-are u)) (s .ensures .1) (s .ensures .0)
+    let s = c .before .before .in-state-unless in
+    allots (start .args .self) (a .result) (s .result) n (a .last .1 .1 .1 .1 .0) e
+    (a .kept .1 .1 .1 .1 .0 ∙ lent-length (replicate 640 0) n (omega (arith, e, length-replicate {A = ℕ} 640 0)))
+    (a .ensures (start .args .self .book) (bids-are u)) (s .ensures .1) (c .amounts-of .result) (c .amounts-of .ensures) (s .ensures .0)
 
 pub allot-spec : {M : Type 1} → statement M
 allot-spec =
@@ -132,7 +126,6 @@ allot-spec =
     columns-of-requires
     up-to-64-requires
     mul-end
-    no-awards-requires
     sub-allot-bids
     part-allot-bids-start
     part-allot-bids-end
@@ -140,8 +133,9 @@ allot-spec =
     part-allot-bids-start-2
     part-allot-bids-end-2
     sub-allot-bids-3
-    part-awards-start
-    part-awards-end
+    part-cents-start
+    part-cents-end
     allot-bids-requires
     in-state-unless-requires
+    amounts-of-requires
     returns)

@@ -16,8 +16,8 @@ loop-holds c = search needs
 mul-award : tie.Need-mul-award Inv-loop μ-loop
 mul-award c = search needs
 
-array-read-award : tie.Need-array-read-award Inv-loop μ-loop
-array-read-award c = search needs
+array-copy-out-award : tie.Need-array-copy-out-award Inv-loop μ-loop
+array-copy-out-award c = search needs
 
 award-requires : tie.Need-award-requires Inv-loop μ-loop
 award-requires c κs = search needs
@@ -42,7 +42,7 @@ awards-spec =
     μ-loop
     loop-holds
     mul-award
-    array-read-award
+    array-copy-out-award
     award-requires
     add-i
     loop-less

@@ -16,14 +16,14 @@ loop-holds c = search needs
 mul-same : tie.Need-mul-same Inv-loop μ-loop
 mul-same c = search needs
 
-array-read-same : tie.Need-array-read-same Inv-loop μ-loop
-array-read-same c = search needs
+element-copy-out-same : tie.Need-element-copy-out-same Inv-loop μ-loop
+element-copy-out-same c = search needs
 
 mul-same-2 : tie.Need-mul-same-2 Inv-loop μ-loop
 mul-same-2 c = search needs
 
-array-read-same-2 : tie.Need-array-read-same-2 Inv-loop μ-loop
-array-read-same-2 c = search needs
+element-copy-out-same-2 : tie.Need-element-copy-out-same-2 Inv-loop μ-loop
+element-copy-out-same-2 c = search needs
 
 add-i : tie.Need-add-i Inv-loop μ-loop
 add-i c = search needs
@@ -45,9 +45,9 @@ same-awards-spec =
     μ-loop
     loop-holds
     mul-same
-    array-read-same
+    element-copy-out-same
     mul-same-2
-    array-read-same-2
+    element-copy-out-same-2
     add-i
     loop-less
     loop-again

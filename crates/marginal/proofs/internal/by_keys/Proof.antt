@@ -1,8 +1,8 @@
--- `marginal::internal::marginal_rate` meets its contract. Assumes nothing.
+-- `marginal::internal::by_keys` meets its contract. Assumes nothing.
 use borrow.Author.Needs.{needs}
 use native.Mathlib.Nat.{sub-zero}
-use Rattle.marginal.proofs.internal.marginal_rate.Statement.{statement}
-use Rattle.marginal.proofs.internal.marginal_rate.Tie as tie
+use Rattle.marginal.proofs.internal.by_keys.Statement.{statement}
+use Rattle.marginal.proofs.internal.by_keys.Tie as tie
 
 keys-in-requires : tie.Need-keys-in-requires
 keys-in-requires c κs = search needs
@@ -25,8 +25,8 @@ same-length c = search needs
 returns : tie.Need-returns
 returns c = search needs
 
-pub marginal-rate-spec : {M : Type 1} → statement M
-marginal-rate-spec =
+pub by-keys-spec : {M : Type 1} → statement M
+by-keys-spec =
     tie.close
     (tie.spec
     keys-in-requires
