@@ -49,7 +49,12 @@ fieldDigits k m = numbered k (reading m .1)
 
 -- 'for .. a place, its .. numbers, or that it has none', the places counted from 0
 unfoldable pub placeNumbered : ℕ → Places → Place
-placeNumbered k ps = record { formed = getD (ps .formed) k false; rate = getD (ps .rates) k (record { 0 = 0 }); amount = getD (ps .amounts) k (record { 0 = 0 }) }
+placeNumbered k ps =
+    record {
+      formed = getD (ps .formed) k false;
+      rate = getD (ps .rates) k (record { 0 = 0 });
+      amount = getD (ps .amounts) k (record { 0 = 0 });
+    }
 
 unfoldable pub placeAt : ℕ → List ℕ → Place
 placeAt k m = placeNumbered k (reading m .1 .places)
@@ -63,7 +68,16 @@ amountOf n = record { 0 = n }
 
 abbrev pub applicationOf : ℕ → ℕ → ℕ → ℕ → ℕ → ℕ → List ℕ → List ℕ → Application
 applicationOf sender recipient cro date time check rates amounts =
-    record { sender = sender; recipient = recipient; cro = cro; date = date; time = time; check = check; rates = map rateOf rates; amounts = map amountOf amounts }
+    record {
+      sender = sender;
+      recipient = recipient;
+      cro = cro;
+      date = date;
+      time = time;
+      check = check;
+      rates = map rateOf rates;
+      amounts = map amountOf amounts;
+    }
 
 -- a rate as the code holds it, in 32 bits
 unfoldable pub heldRate : ℕ → Rate

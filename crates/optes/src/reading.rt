@@ -3,7 +3,9 @@
 use digits::Digits;
 use digits::has_number;
 use digits::number_of;
+use envelope::application::Field;
 use envelope::application::is_6g1;
+use envelope::internal::bytes_in;
 use envelope::internal::number_in;
 use layout::internal::contents;
 use layout::internal::offset_of;
@@ -107,7 +109,7 @@ fn place_at(m: &[u8], place: u32) -> Place
 {
     if is_6g1(m) {
         if place < 10 {
-            let bids = contents(m, 8);
+            let bids = bytes_in(m, Field::Bids);
             let at = 24 * (place as usize);
             return read_place(&bids[at..at + 24]);
         }

@@ -65,7 +65,10 @@ pub extern "C" fn optes_6g1_write(
     name: &[u8],
     space: &mut [u8],
 ) -> u32
-    ensures { λ r. ⌜ (r, now (space .exit)) ≡ answered (write (applicationOf sender recipient cro date time check (rate0 ∷ rate1 ∷ rate2 ∷ rate3 ∷ rate4 ∷ rate5 ∷ rate6 ∷ rate7 ∷ rate8 ∷ rate9 ∷ []) (amount0 ∷ amount1 ∷ amount2 ∷ amount3 ∷ amount4 ∷ amount5 ∷ amount6 ∷ amount7 ∷ amount8 ∷ amount9 ∷ [])) (now (kind .entry)) (now (identifier .entry)) (now (name .entry)) (now (space .entry))) ⌝ }
+    ensures { λ r. ⌜ (r, now (space .exit)) ≡ answered (write (applicationOf sender recipient cro date time check
+        (rate0 ∷ rate1 ∷ rate2 ∷ rate3 ∷ rate4 ∷ rate5 ∷ rate6 ∷ rate7 ∷ rate8 ∷ rate9 ∷ [])
+        (amount0 ∷ amount1 ∷ amount2 ∷ amount3 ∷ amount4 ∷ amount5 ∷ amount6 ∷ amount7 ∷ amount8 ∷ amount9 ∷ []))
+        (now (kind .entry)) (now (identifier .entry)) (now (name .entry)) (now (space .entry))) ⌝ }
 {
     let rates = [
         rate(rate0),

@@ -13,7 +13,7 @@ use Rattle.places.proofs.Reading.{length-places}
 use Rattle.envelope.specs.declared.application.Field.the-variants.{Bids}
 use Rattle.envelope.specs.declared.application.Fields.{Fields}
 use Rattle.envelope.specs.Application.{layout6G1, bytesOf, fieldsOf}
-use Rattle.envelope.proofs.Promise.{whole-field, length-field}
+use Rattle.envelope.proofs.Promise.{length-field}
 use Rattle.optes.specs.Interface.{placeNumbered, placeAt}
 use Rattle.optes.proofs.Interface.{fields-read, fields-none, place-there, place-past, place-none}
 use Rattle.optes.proofs.reading.place_at.Statement.{statement}
@@ -25,8 +25,8 @@ readable-there c = sym (c .before .is-6g1 .ensures) ∙ c .if1 .taken
 is-6g1-requires : tie.Need-is-6g1-requires
 is-6g1-requires c κs = search needs
 
-contents-requires : tie.Need-contents-requires
-contents-requires c κs = whole-field (now (c .before .before .before .before .args .m)) (readable-there (c .before)) Bids
+bytes-in-requires : tie.Need-bytes-in-requires
+bytes-in-requires c κs = readable-there (c .before)
 
 mul-at : tie.Need-mul-at
 mul-at c = search needs
@@ -42,7 +42,7 @@ part-read-place-start c = search needs
 
 part-read-place-end : tie.Need-part-read-place-end
 part-read-place-end c =
-    let l = ap length (c .contents .ensures) ∙ length-field (now (c .before .before .before .before .before .args .m)) (readable-there (c .before .before)) Bids in
+    let l = ap length (c .bytes-in .ensures) ∙ length-field (now (c .before .before .before .before .before .args .m)) (readable-there (c .before .before)) Bids in
     omega (arith, l)
 
 read-place-requires : tie.Need-read-place-requires
@@ -54,7 +54,7 @@ returns c =
     let m = now (c .before .before .before .before .before .before .before .args .m) in
     let k = c .before .before .before .before .before .before .before .args .place in
     let n : 24 * k + 24 - 24 * k ≡ 24 = omega arith in
-    let e = c .read-place .ensures ∙ ap (λ (j : ℕ). placeOf (take j (drop (24 * k) (now (c .before .before .contents .result))))) n ∙ ap (λ (s : List ℕ). placeOf (take 24 (drop (24 * k) s))) (c .before .before .contents .ensures) in
+    let e = c .read-place .ensures ∙ ap (λ (j : ℕ). placeOf (take j (drop (24 * k) (now (c .before .before .bytes-in .result))))) n ∙ ap (λ (s : List ℕ). placeOf (take 24 (drop (24 * k) s))) (c .before .before .bytes-in .ensures) in
     e ∙ sym (ap (λ (f : Fields). placeNumbered k (f .places)) (fields-read m (readable-there (c .before .before .before .before))) ∙ place-there k (bytesOf Bids m) (c .before .before .before .if2 .taken))
 
 no-place-requires : tie.Need-no-place-requires
@@ -83,7 +83,7 @@ place-at-spec =
     tie.close
     (tie.spec
     is-6g1-requires
-    contents-requires
+    bytes-in-requires
     mul-at
     add-read-place
     sub-read-place
