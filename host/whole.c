@@ -1,4 +1,5 @@
-// A whole message read by one call: the numbers are those of the single calls.
+// A whole message read by one call: the numbers are those of the single calls, as many as the array has
+// room for.
 #include <string.h>
 
 #include "cases.h"
@@ -7,7 +8,7 @@
 #include "optes.h"
 #include "pattern.h"
 
-// The answer to a call with a space of so many numbers, filled with the pattern before.
+// The answer to a call with an array of so many numbers, filled with the pattern before.
 struct answer {
     uint32_t refusal;
     const uint64_t *numbers;
@@ -15,51 +16,74 @@ struct answer {
 
 static struct answer asked(const struct buffers *b, const uint8_t *m, size_t n, size_t count)
 {
-    uint8_t *space = guarded_bytes(&b->space, count * sizeof(uint64_t));
-    pattern_put(space, count * sizeof(uint64_t));
-    uint64_t *numbers = (uint64_t *)(void *)space;
+    uint8_t *array = guarded_bytes(&b->space, count * sizeof(uint64_t));
+    pattern_put(array, count * sizeof(uint64_t));
+    uint64_t *numbers = (uint64_t *)(void *)array;
     return (struct answer){optes_6g1_numbers(m, n, numbers, count), numbers};
 }
 
-// The numbers from this one on hold the pattern still.
+// The entries from this one on hold the pattern still.
 static void expect_untouched(const uint64_t *numbers, size_t from, size_t count)
 {
     pattern_expect((const uint8_t *)numbers, from * sizeof(uint64_t), count * sizeof(uint64_t));
 }
 
-// The 45 numbers are what the single calls tell of the message.
-static void expect_told(const uint64_t *numbers, const uint8_t *m)
+// The 45 numbers that the single calls tell of the message.
+static void tell(uint64_t *told, const uint8_t *m)
 {
     for (uint32_t k = 0; k < DIGIT_FIELDS; k++) {
-        CHECK(numbers[2 * k] == optes_6g1_number(m, MESSAGE_BYTES, k + 1));
-        CHECK(numbers[2 * k + 1] == optes_6g1_has_number(m, MESSAGE_BYTES, k + 1));
+        told[2 * k] = optes_6g1_number(m, MESSAGE_BYTES, k + 1);
+        told[2 * k + 1] = optes_6g1_has_number(m, MESSAGE_BYTES, k + 1);
     }
     for (uint32_t k = 0; k < PLACES; k++) {
-        CHECK(numbers[12 + 3 * k] == optes_6g1_rate(m, MESSAGE_BYTES, k));
-        CHECK(numbers[13 + 3 * k] == optes_6g1_amount(m, MESSAGE_BYTES, k));
-        CHECK(numbers[14 + 3 * k] == optes_6g1_has_place(m, MESSAGE_BYTES, k));
+        told[12 + 3 * k] = optes_6g1_rate(m, MESSAGE_BYTES, k);
+        told[13 + 3 * k] = optes_6g1_amount(m, MESSAGE_BYTES, k);
+        told[14 + 3 * k] = optes_6g1_has_place(m, MESSAGE_BYTES, k);
     }
-    CHECK(numbers[42] == optes_6g1_start(m, MESSAGE_BYTES, 0));
-    CHECK(numbers[43] == optes_6g1_start(m, MESSAGE_BYTES, 7));
-    CHECK(numbers[44] == optes_6g1_start(m, MESSAGE_BYTES, 9));
+    told[42] = optes_6g1_start(m, MESSAGE_BYTES, 0);
+    told[43] = optes_6g1_start(m, MESSAGE_BYTES, 7);
+    told[44] = optes_6g1_start(m, MESSAGE_BYTES, 9);
 }
 
-// The n bytes with spaces that are short, just long enough and longer: a refused call leaves the
-// space, and what is unreadable is refused as such also where the space is short.
-static void every_space(const struct buffers *b, const uint8_t *m, size_t n)
+// An array of so many entries gets the numbers that it has room for, and those past the 45 stay.
+static void expect_read(const struct buffers *b, const uint8_t *m, const uint64_t *told, size_t count)
 {
-    const size_t counts[] = {0, 1, 44, 45, 46, 90};
+    struct answer a = asked(b, m, MESSAGE_BYTES, count);
+    size_t given = count < 45 ? count : 45;
+    CHECK(a.refusal == 0);
+    for (size_t k = 0; k < given; k++)
+        CHECK(a.numbers[k] == told[k]);
+    expect_untouched(a.numbers, given, count);
+}
+
+// An array of so many entries is refused with 12 and stays.
+static void expect_refused(const struct buffers *b, const uint8_t *m, size_t n, size_t count)
+{
+    struct answer a = asked(b, m, n, count);
+    CHECK(a.refusal == 12);
+    expect_untouched(a.numbers, 0, count);
+}
+
+// Arrays of every length from none to one more than the numbers, and a longer one.
+#define LENGTHS 48
+
+static size_t length_of(size_t index)
+{
+    return index < LENGTHS - 1 ? index : 90;
+}
+
+// The n bytes into every array.
+static void every_array(const struct buffers *b, const uint8_t *m, size_t n)
+{
+    uint64_t told[45];
     uint32_t unreadable = optes_6g1_read(m, n);
-    for (size_t i = 0; i < sizeof counts / sizeof counts[0]; i++) {
-        struct answer a = asked(b, m, n, counts[i]);
-        if (unreadable || counts[i] < 45) {
-            CHECK(a.refusal == (unreadable ? 12u : 18u));
-            expect_untouched(a.numbers, 0, counts[i]);
-        } else {
-            CHECK(a.refusal == 0);
-            expect_told(a.numbers, m);
-            expect_untouched(a.numbers, 45, counts[i]);
-        }
+    if (!unreadable)
+        tell(told, m);
+    for (size_t i = 0; i < LENGTHS; i++) {
+        if (unreadable)
+            expect_refused(b, m, n, length_of(i));
+        else
+            expect_read(b, m, told, length_of(i));
     }
 }
 
@@ -91,10 +115,10 @@ static void damaged(const struct buffers *b)
     for (size_t at = 0; at < MESSAGE_BYTES; at++) {
         for (size_t i = 0; i < NO_DIGITS; i++) {
             m[at] = no_digits[i];
-            every_space(b, m, MESSAGE_BYTES);
+            every_array(b, m, MESSAGE_BYTES);
         }
         m[at] = '7';
-        every_space(b, m, MESSAGE_BYTES);
+        every_array(b, m, MESSAGE_BYTES);
         m[at] = (uint8_t)message[at];
     }
 }
@@ -105,7 +129,7 @@ static void lengths(const struct buffers *b)
     uint8_t longest[400] = {0};
     memcpy(longest, message, MESSAGE_BYTES);
     for (size_t n = 0; n <= sizeof longest; n++)
-        every_space(b, guarded_copy(&b->message, longest, n), n);
+        every_array(b, guarded_copy(&b->message, longest, n), n);
 }
 
 void whole_cases(const struct buffers *b)

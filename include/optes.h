@@ -1,11 +1,11 @@
-// The OPTES 6G1 application for a host in C or C++: read from bytes, written from numbers and texts.
+// The OPTES 6G1 application in C and C++: read from bytes, written from numbers and texts.
 //
-// Threads: the library has no state, so every call may run at the same time as any other. While a
-// call runs, nobody else writes the bytes that it reads or touches the space that it writes.
-// Failure: a call that is refused returns the number of the refusal and alters nothing. There is no
-// other failure.
-// Pointers: each pointer is followed by how many bytes or numbers it points to. It is not null, also
-// where they are none. A space that a call writes overlaps nothing that the call reads.
+// Threads: the library keeps no state, so calls may run at the same time. While a call runs, no other
+// thread may write what it reads, or touch what it writes.
+// Refusals: a call that is refused returns the number of the refusal and changes nothing. Nothing else
+// can go wrong.
+// Pointers: each pointer is followed by how many bytes or numbers it points to. It must not be null,
+// even if it points to none. What a call writes must not overlap what it reads.
 #ifndef OPTES_H
 #define OPTES_H
 
@@ -13,13 +13,14 @@
 #include <stdint.h>
 #include <string.h>
 
-// What a call returns: done, or the number of its refusal.
+// What a call returns: OPTES_OK, or the number of its refusal. Reading is refused with OPTES_UNREADABLE
+// alone, writing with the other two.
 #define OPTES_OK 0
-#define OPTES_UNREADABLE 12 // The message is not readable as a 6G1.
-#define OPTES_UNFIT 17      // A number is too wide, a text not of its length, or the identifier malformed.
-#define OPTES_NO_ROOM 18    // The space is under OPTES_6G1_BYTES or OPTES_6G1_NUMBERS.
+#define OPTES_UNREADABLE 12 // The message cannot be read as a 6G1.
+#define OPTES_UNFIT 17      // A number is too wide, a text of the wrong length, or the identifier malformed.
+#define OPTES_NO_ROOM 18    // The space to write to is under OPTES_6G1_BYTES.
 
-// The numbers of the fields, in their order, and how many they are.
+// The fields of a message by their numbers, and how many there are.
 #define OPTES_6G1_TYPE 0
 #define OPTES_6G1_SENDER 1
 #define OPTES_6G1_RECIPIENT 2
@@ -32,18 +33,18 @@
 #define OPTES_6G1_NAME 9
 #define OPTES_6G1_FIELDS 10
 
-// The whole message, and the ten places of the bids, which are numbered from 0.
+// The sizes of a message and of its bids. The ten places of the bids are numbered from 0.
 #define OPTES_6G1_BYTES 339
 #define OPTES_6G1_PLACES 10
 #define OPTES_6G1_PLACE_BYTES 24
 #define OPTES_6G1_BIDS_BYTES 240
 
-// The widths of the texts.
+// How long the texts are.
 #define OPTES_6G1_TYPE_BYTES 3
 #define OPTES_6G1_IDENTIFIER_BYTES 11
 #define OPTES_6G1_NAME_BYTES 15
 
-// The widths of the digit fields, and of the two numbers of a place.
+// How many digits each digit field has, and each number of a place.
 #define OPTES_6G1_SENDER_DIGITS 5
 #define OPTES_6G1_RECIPIENT_DIGITS 5
 #define OPTES_6G1_CRO_DIGITS 11
@@ -53,8 +54,8 @@
 #define OPTES_6G1_RATE_DIGITS 8
 #define OPTES_6G1_AMOUNT_DIGITS 15
 
-// How many numbers optes_6g1_numbers gives, and where they stand. A digit field has two: its number,
-// and 1 where it holds digits only, else 0.
+// How many numbers optes_6g1_numbers has to give, and the index of each. A digit field has two: its
+// number, and then 1 if it holds only digits, else 0.
 #define OPTES_6G1_NUMBERS 45
 #define OPTES_6G1_NUMBERS_SENDER 0
 #define OPTES_6G1_NUMBERS_RECIPIENT 2
@@ -63,12 +64,12 @@
 #define OPTES_6G1_NUMBERS_TIME 8
 #define OPTES_6G1_NUMBERS_CHECK 10
 
-// A place has three: its rate, its amount, and 1 where it is well formed, else 0. The ten places stand
-// one after the other.
+// A place has three: its rate, its amount, and then 1 if it is well formed, else 0. The ten places
+// follow one another.
 #define OPTES_6G1_NUMBERS_PLACES 12
 #define OPTES_6G1_PLACE_NUMBERS 3
 
-// A text has one: the index in the message of its first byte.
+// A text has one: the index of its first byte in the message.
 #define OPTES_6G1_NUMBERS_TYPE 42
 #define OPTES_6G1_NUMBERS_IDENTIFIER 43
 #define OPTES_6G1_NUMBERS_NAME 44
@@ -77,40 +78,42 @@
 extern "C" {
 #endif
 
-// OPTES_OK where the n bytes at m are readable as a 6G1, else OPTES_UNREADABLE.
+// OPTES_OK if the n bytes at m can be read as a 6G1, else OPTES_UNREADABLE.
 uint32_t optes_6g1_read(const uint8_t *m, size_t n);
 
-// 1 where the message is readable and has a field of this number, else 0.
+// 1 if the message can be read and has a field of this number, else 0.
 uint32_t optes_6g1_has_field(const uint8_t *m, size_t n, uint32_t field);
 
-// The index in m of the first byte that the field holds, or 0 where there is no such field.
+// The index of the field's first byte in m, or 0 if there is no such field.
 size_t optes_6g1_start(const uint8_t *m, size_t n, uint32_t field);
 
-// How many bytes the field holds, or 0 where there is no such field.
+// How many bytes the field has, or 0 if there is no such field.
 size_t optes_6g1_length(const uint8_t *m, size_t n, uint32_t field);
 
-// 1 where the field is a digit field, SENDER to CHECK, and holds digits only, else 0.
+// 1 if the field is a digit field, SENDER to CHECK, and holds only digits, else 0.
 uint32_t optes_6g1_has_number(const uint8_t *m, size_t n, uint32_t field);
 
-// The number of a digit field, or 0 where it has none.
+// The number of a digit field, or 0 if it has none.
 uint64_t optes_6g1_number(const uint8_t *m, size_t n, uint32_t field);
 
-// 1 where the place of this number is well formed, else 0.
+// 1 if the place of this number is well formed, else 0.
 uint32_t optes_6g1_has_place(const uint8_t *m, size_t n, uint32_t place);
 
-// The rate of a place in hundred-thousandths of a percent, or 0 where the place is not well formed.
+// The rate of a place in hundred-thousandths of a percent, or 0 if the place is not well formed.
 uint32_t optes_6g1_rate(const uint8_t *m, size_t n, uint32_t place);
 
-// The amount of a place in eurocents, or 0 where the place is not well formed.
+// The amount of a place in eurocents, or 0 if the place is not well formed.
 uint64_t optes_6g1_amount(const uint8_t *m, size_t n, uint32_t place);
 
-// OPTES_OK with the numbers of the message in the first OPTES_6G1_NUMBERS of the space and those past
-// them as they were, else OPTES_UNREADABLE or OPTES_NO_ROOM. A number or place that is not there is 0.
-// It reads a whole message and tests it once, where each call above tests it again.
+// Reads a whole message, and tests it once, while each call above tests it again. The array at numbers
+// has count entries: it gets as many of the OPTES_6G1_NUMBERS numbers as it has room for, and any entries
+// past them stay as they were. A number that the message does not have is 0. Returns OPTES_OK, or
+// OPTES_UNREADABLE and leaves the array as it was.
 uint32_t optes_6g1_numbers(const uint8_t *m, size_t n, uint64_t *numbers, size_t count);
 
-// OPTES_OK with a 6G1 in the first OPTES_6G1_BYTES of the space and the bytes past them as they were,
-// else OPTES_UNFIT or OPTES_NO_ROOM; a rate has 64 bits, so that a wide one is refused and never cut.
+// Writes a 6G1 to the first OPTES_6G1_BYTES of the n bytes of the space, and leaves the bytes past them as
+// they were. Returns OPTES_OK, or OPTES_UNFIT or OPTES_NO_ROOM and leaves the space as it was. A rate is
+// passed in 64 bits, so that one that is too wide is refused and never cut.
 uint32_t optes_6g1_write(
     uint64_t sender, uint64_t recipient, uint64_t cro, uint64_t date, uint64_t time, uint64_t check,
     uint64_t rate0, uint64_t rate1, uint64_t rate2, uint64_t rate3, uint64_t rate4,
@@ -126,7 +129,7 @@ uint32_t optes_6g1_write(
 struct optes_place {
     uint64_t rate;
     uint64_t amount;
-    uint32_t well_formed; // 1 where the two numbers were read, else 0, and then they are 0.
+    uint32_t well_formed; // 1 if the two numbers were read. Where it is 0, they are 0.
 };
 
 // The numbers and texts of a 6G1.
@@ -137,7 +140,7 @@ struct optes_application {
     uint64_t date; // ddmmyyyy
     uint64_t time; // hhmmss
     uint64_t check;
-    uint32_t has_sender; // 1 where the number was read, else 0, and then it is 0. So the next five.
+    uint32_t has_sender; // 1 if the number was read. Where it is 0, the number is 0. So for the next five.
     uint32_t has_recipient;
     uint32_t has_cro;
     uint32_t has_date;
@@ -149,7 +152,7 @@ struct optes_application {
     uint8_t name[OPTES_6G1_NAME_BYTES];
 };
 
-// Reads the n bytes at m: OPTES_OK, or OPTES_UNREADABLE with the application as it was.
+// Reads the n bytes at m. Returns OPTES_OK, or OPTES_UNREADABLE and leaves the application as it was.
 static inline uint32_t optes_application_read(struct optes_application *a, const uint8_t *m, size_t n)
 {
     uint64_t numbers[OPTES_6G1_NUMBERS];
@@ -180,8 +183,8 @@ static inline uint32_t optes_application_read(struct optes_application *a, const
     return OPTES_OK;
 }
 
-// Writes the application to the n bytes of the space, as optes_6g1_write does. The flags are not
-// looked at: a number or place without one is written as the numbers that stand there.
+// Writes the application to the n bytes of the space, as optes_6g1_write does. It does not look at
+// well_formed and the has_ flags: it writes the numbers that stand there.
 static inline uint32_t optes_application_write(const struct optes_application *a, uint8_t *space, size_t n)
 {
     const struct optes_place *p = a->places;

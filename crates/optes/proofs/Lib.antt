@@ -1,3 +1,4 @@
 pub mod Interface
 pub mod Rates
 pub mod Parts
+pub mod Arrays

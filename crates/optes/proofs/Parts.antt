@@ -1,35 +1,28 @@
--- Laws of a 6G1 as one list of numbers: each field of a readable 6G1 stands where the layout puts it. Assumes nothing.
+-- Laws of the parts of a message: each field of a readable 6G1 stands where the layout puts it. Assumes nothing.
 use mathlib.Core.Path.{_≡_, refl, sym, ap, ap₂, _∙_}
-use mathlib.Core.Bool.{Bool, true, false}
+use mathlib.Core.Bool.{true}
 use mathlib.Core.List.{List, [], _∷_, _++_}
-use mathlib.Core.Option.{none, some}
 use Prim.Native.Nat.{ℕ, zero, suc, _+_, _*_, _-_, _≤_, _<_}
-use mir.Val.{boolByte}
 use native.Mathlib.Nat.{not-suc-le-zero, le-of-suc-le-suc}
 use native.Mathlib.Numerals.{add-one}
 use native.Mathlib.Omega.{arith}
 use lib.Dec.{lit<}
-use lib.ListN.{length, take, drop, getD, set, length-set}
+use lib.ListN.{length, take, drop, getD}
 use lib.Seq.{drop-drop, take-take}
-use borrow.Author.Tests.{lt-ltb, le-ltb}
+use borrow.Author.Tests.{lt-ltb}
 use Rattle.laws.proofs.Tests.{and-right}
-use Rattle.output.specs.Output.{Wrote}
-use Rattle.output.proofs.Output.{then, said, one-byte, from-start}
-use Rattle.digits.specs.declared.Digits.{Digits}
-use Rattle.digits.specs.Decimal.{digitsOf, isNumber, numberIn}
+use Rattle.digits.specs.Decimal.{digitsOf}
 use Rattle.layout.specs.Fields.{lengthAt, starts, readable, offset, content}
 use Rattle.layout.proofs.Fields.{offset-within, content-at}
 use Rattle.layout.proofs.ReturnTrip.{whole-of}
 use Rattle.layout.proofs.Fixed.{fixed, first-length}
-use Rattle.places.specs.declared.Place.{Place}
 use Rattle.places.specs.Bids.{placeOf}
 use Rattle.envelope.specs.declared.application.Field.the-variants.{Bids}
 use Rattle.envelope.specs.declared.application.Fields.{Fields}
-use Rattle.envelope.specs.Refusals.{firstHolding}
 use Rattle.envelope.specs.Application.{one, layout6G1, bytesOf, fieldsOf}
 use Rattle.envelope.proofs.Promise.{fields6G1}
-use Rattle.optes.specs.Interface.{flag, hasField, startOf, fieldDigits, placeNumbered, placeAt}
-use Rattle.optes.specs.Numbers.{digitNumbers, placeNumbers, placesNumbers, textStarts, numbersOf, numbersRead}
+use Rattle.optes.specs.Interface.{hasField, startOf, fieldDigits, placeNumbered, placeAt}
+use Rattle.optes.specs.Numbers.{placeNumbers, placesNumbers, textStarts}
 use Rattle.optes.proofs.Interface.{fields-read, digits-there, place-there}
 
 -- how many bytes its fields before the k-th take
@@ -133,53 +126,3 @@ place-part m h k l =
 pub places-more : (k : ℕ) (m : List ℕ) → placesNumbers k m ++ placeNumbers (placeAt k m) ≡ placesNumbers (k + 1) m
 unfolding placesNumbers
 places-more k m = rw add-one
-
--- a bool as a number
-flag-is : (b : Bool) → boolByte b ≡ flag b
-flag-is true = refl
-flag-is false = refl
-
--- stores one after the other
-one-number : (d : List ℕ) (at a : ℕ) → at < length d → Wrote d at (a ∷ []) (set d at a) (at + 1)
-one-number d at a h = record { bytes = one-byte d at a h; past = omega arith }
-
-two-numbers : (d : List ℕ) (at a b : ℕ) → at + 2 ≤ length d → Wrote d at (a ∷ b ∷ []) (set (set d at a) (at + 1) b) (at + 1 + 1)
-two-numbers d at a b h = then (omega arith) (one-number d at a (omega arith)) (one-number (set d at a) (at + 1) b (simp length-set (omega arith)))
-
-three-numbers : (d : List ℕ) (at a b c : ℕ) → at + 3 ≤ length d → Wrote d at (a ∷ b ∷ c ∷ []) (set (set (set d at a) (at + 1) b) (at + 2) c) (at + 3)
-three-numbers d at a b c h =
-    let e : at + 1 + 1 ≡ at + 2 = omega arith in
-    let w = then {e₂ = at + 2 + 1} (omega arith) (rw e at (two-numbers d at a b (omega arith))) (one-number (set (set d at a) (at + 1) b) (at + 2) c (simp (length-set, length-set) (omega arith))) in
-    record { bytes = w .bytes; past = omega arith }
-
-pub wrote-digits : (d : List ℕ) (at : ℕ) (x : Digits) → at + 2 ≤ length d → Wrote d at (digitNumbers x) (set (set d at (numberIn x)) (at + 1) (boolByte (isNumber x))) (at + 2)
-unfolding digitNumbers
-wrote-digits d at x h =
-    let w = two-numbers d at (numberIn x) (flag (isNumber x)) h in
-    rw (flag-is (isNumber x)) (record { bytes = w .bytes; past = omega arith })
-
-pub wrote-place : (d : List ℕ) (at : ℕ) (p : Place) → at + 3 ≤ length d → Wrote d at (placeNumbers p) (set (set (set d at (p .rate .0)) (at + 1) (p .amount .0)) (at + 2) (boolByte (p .formed))) (at + 3)
-unfolding placeNumbers
-wrote-place d at p h = rw (flag-is (p .formed)) (three-numbers d at (p .rate .0) (p .amount .0) (flag (p .formed)) h)
-
-pub wrote-starts : (m d : List ℕ) (at : ℕ) → readable layout6G1 m ≡ true → at + 3 ≤ length d → Wrote d at (textStarts m) (set (set (set d at 3) (at + 1) 67) (at + 2) 324) (at + 3)
-wrote-starts m d at h l = said (starts-are m h) (three-numbers d at 3 67 324 l)
-
--- a write from the start and one after it
-pub and-then : {d s t d₁ d₂ : List ℕ} {e₁ e₂ : ℕ} → Wrote d 0 s d₁ e₁ → Wrote d₁ e₁ t d₂ e₂ → Wrote d 0 (s ++ t) d₂ e₂
-and-then v w = then (omega arith) v w
-
--- what the whole call gives
-pub numbers-unreadable : (m d : List ℕ) → readable layout6G1 m ≡ false → numbersRead m d ≡ (some 12, d)
-unfolding numbersRead firstHolding
-numbers-unreadable m d h = rw h
-
-pub numbers-short : (m d : List ℕ) → readable layout6G1 m ≡ true → length d < 45 → numbersRead m d ≡ (some 18, d)
-unfolding numbersRead firstHolding
-numbers-short m d h l = rw (h, lt-ltb (length d) 45 l)
-
-pub numbers-read : (m d after : List ℕ) (end : ℕ) → readable layout6G1 m ≡ true → 45 ≤ length d → Wrote d 0 (numbersOf m) after end → end ≡ 45 → numbersRead m d ≡ (none, after)
-unfolding numbersRead firstHolding
-numbers-read m d after end h l w e =
-    let n : length (numbersOf m) ≡ 45 = let p = w .past in omega arith in
-    rw (h, le-ltb (length d) 45 l, w .bytes, from-start d (numbersOf m), n)

@@ -2,13 +2,12 @@
 use mathlib.Core.List.{List, [], _∷_, _++_}
 use mathlib.Core.Option.{Option}
 use Prim.Native.Nat.{ℕ, zero, suc}
-use lib.Dec.{ltb}
-use lib.ListN.{length, drop}
+use lib.ListN.{length, take, drop}
 use Rattle.digits.specs.declared.Digits.{Digits}
 use Rattle.digits.specs.Decimal.{isNumber, numberIn}
 use Rattle.places.specs.declared.Place.{Place}
-use Rattle.envelope.specs.Refusals.{firstHolding, unlessRefused}
-use Rattle.envelope.specs.Application.{unreadable}
+use Rattle.envelope.specs.Refusals.{unlessRefused}
+use Rattle.envelope.specs.Application.{readingRefused}
 use Rattle.optes.specs.Interface.{flag, startOf, fieldDigits, placeAt}
 
 -- a digit field: its number, 0 where it has none, and whether it has one
@@ -42,10 +41,6 @@ textStarts m = startOf 0 m ∷ startOf 7 m ∷ startOf 9 m ∷ []
 unfoldable pub numbersOf : List ℕ → List ℕ
 numbersOf m = fieldsNumbers m ++ placesNumbers 10 m ++ textStarts m
 
--- '12', and '18' where the space has no room for the numbers
-abbrev pub numbersRefused : List ℕ → List ℕ → Option ℕ
-numbersRefused m space = firstHolding ((12, unreadable m) ∷ (18, ltb (length space) 45) ∷ [])
-
--- a refused call leaves the space as it was, and any other the numbers past the 45
+-- 'reading a 6G1 [checks] 12': it gives as many of the numbers as the array has room for, and the entries past the 45 stay; a refused call leaves the array
 unfoldable pub numbersRead : List ℕ → List ℕ → Option ℕ × List ℕ
-numbersRead m space = (numbersRefused m space, unlessRefused (numbersRefused m space) space (numbersOf m ++ drop 45 space))
+numbersRead m array = (readingRefused m, unlessRefused (readingRefused m) array (take (length array) (numbersOf m) ++ drop 45 array))

@@ -10,22 +10,41 @@ use words::internal::long_number_at;
 use words::internal::number_at;
 ghost use mathlib.Core.Path.{_≡_};
 ghost use mathlib.Core.Bool.{true};
-ghost use Prim.Native.Nat.{_+_, _≤_};
-ghost use lib.ListN.{length};
+ghost use mathlib.Core.List.{[], _∷_, _++_};
+ghost use Prim.Native.Nat.{_+_, _≤_, _<_};
+ghost use lib.ListN.{length, take, drop, set};
 ghost use Rattle.output.specs.Output.{Wrote};
 ghost use Rattle.layout.specs.Fields.{readable};
 ghost use Rattle.envelope.specs.Application.{layout6G1};
 ghost use Rattle.optes.specs.Interface.{answered};
-ghost use Rattle.optes.specs.Numbers.{digitNumbers, placeNumbers, fieldsNumbers, placesNumbers, textStarts, numbersRead};
+ghost use Rattle.optes.specs.Numbers.{digitNumbers, placeNumbers, fieldsNumbers, placesNumbers, textStarts, numbersOf, numbersRead};
+
+// Writes one number.
+fn put(numbers: &mut [u64], at: usize, n: u64) -> usize
+    requires { ⌜ at < length (now numbers) ⌝ }
+    ensures { λ r. ⌜ Wrote (now (numbers .entry)) at (n ∷ []) (now (numbers .exit)) r ⌝ }
+{
+    numbers[at] = n;
+    at + 1
+}
+
+// Writes three numbers.
+fn put_three(numbers: &mut [u64], at: usize, a: u64, b: u64, c: u64) -> usize
+    requires { ⌜ at + 3 ≤ length (now numbers) ⌝ }
+    ensures { λ r. ⌜ Wrote (now (numbers .entry)) at (a ∷ b ∷ c ∷ []) (now (numbers .exit)) r ⌝ }
+{
+    let second = put(numbers, at, a);
+    let third = put(numbers, second, b);
+    put(numbers, third, c)
+}
 
 // Writes the number of a digit field and whether it has one.
 fn put_number(numbers: &mut [u64], at: usize, d: Digits) -> usize
     requires { ⌜ at + 2 ≤ length (now numbers) ⌝ }
     ensures { λ r. ⌜ Wrote (now (numbers .entry)) at (digitNumbers d) (now (numbers .exit)) r × (r ≡ at + 2) ⌝ }
 {
-    numbers[at] = number_of(d);
-    numbers[at + 1] = has_number(d) as u64;
-    at + 2
+    let flag = put(numbers, at, number_of(d));
+    put(numbers, flag, has_number(d) as u64)
 }
 
 // Writes the numbers of the six digit fields.
@@ -48,10 +67,7 @@ fn put_place(numbers: &mut [u64], at: usize, p: Place) -> usize
 {
     let rate = p.rate;
     let amount = p.amount;
-    numbers[at] = rate.0 as u64;
-    numbers[at + 1] = amount.0;
-    numbers[at + 2] = p.formed as u64;
-    at + 3
+    put_three(numbers, at, rate.0 as u64, amount.0, p.formed as u64)
 }
 
 // Writes the numbers of the ten places.
@@ -72,15 +88,45 @@ fn put_places(numbers: &mut [u64], at: usize, m: &[u8]) -> usize
 // Writes where type, identifier and name start.
 fn put_starts(numbers: &mut [u64], at: usize, m: &[u8]) -> usize
     requires { ⌜ (readable layout6G1 (now m) ≡ true) × (at + 3 ≤ length (now numbers)) ⌝ }
-    ensures { λ r. ⌜ Wrote (now (numbers .entry)) at (textStarts (now (m .entry))) (now (numbers .exit)) r × (r ≡ at + 3) ⌝ }
+    ensures { λ r. ⌜ Wrote (now (numbers .entry)) at (textStarts (now (m .entry))) (now (numbers .exit)) r ⌝ }
 {
-    numbers[at] = 3;
-    numbers[at + 1] = 67;
-    numbers[at + 2] = 324;
-    at + 3
+    put_three(numbers, at, 3, 67, 324)
 }
 
-// Reads a 6G1 into the first 45 numbers of the space: 0, or 12 or 18 with the space as it was.
+// Writes all numbers of a message.
+fn put_all(numbers: &mut [u64], m: &[u8]) -> usize
+    requires { ⌜ (readable layout6G1 (now m) ≡ true) × (45 ≤ length (now numbers)) ⌝ }
+    ensures { λ r. ⌜ Wrote (now (numbers .entry)) 0 (numbersOf (now (m .entry))) (now (numbers .exit)) r ⌝ }
+{
+    let places = put_fields(numbers, m);
+    let starts = put_places(numbers, places, m);
+    put_starts(numbers, starts, m)
+}
+
+// Stores a number where the array has room for it.
+fn put_if_room(numbers: &mut [u64], at: usize, n: u64)
+    ensures { λ _. ⌜ now (numbers .exit) ≡ set (now (numbers .entry)) at n ⌝ }
+{
+    if numbers.len() <= at {
+        return;
+    }
+    numbers[at] = n;
+}
+
+// Stores as many of the 45 numbers as the array has room for. A loop that ends with the array would be
+// compiled to a call of memcpy, and the archive for C needs nothing from elsewhere.
+fn put_first(numbers: &mut [u64], all: &[u64])
+    requires { ⌜ length (now all) ≡ 45 ⌝ }
+    ensures { λ _. ⌜ now (numbers .exit) ≡ take (length (now (numbers .entry))) (now (all .entry)) ++ drop 45 (now (numbers .entry)) ⌝ }
+{
+    let mut k = 0;
+    while k < 45 {
+        put_if_room(numbers, k, all[k]);
+        k += 1;
+    }
+}
+
+// Reads as many of the 45 numbers of a 6G1 as the array has room for: 0, or 12 with the array as it was.
 #[no_mangle]
 pub extern "C" fn optes_6g1_numbers(m: &[u8], numbers: &mut [u64]) -> u32
     ensures { λ r. ⌜ (r, now (numbers .exit)) ≡ answered (numbersRead (now (m .entry)) (now (numbers .entry))) ⌝ }
@@ -89,10 +135,11 @@ pub extern "C" fn optes_6g1_numbers(m: &[u8], numbers: &mut [u64]) -> u32
         return 12;
     }
     if numbers.len() < 45 {
-        return 18;
+        let mut all = [0; 45];
+        put_all(&mut all, m);
+        put_first(numbers, &all);
+        return 0;
     }
-    let places = put_fields(numbers, m);
-    let starts = put_places(numbers, places, m);
-    put_starts(numbers, starts, m);
+    put_all(numbers, m);
     0
 }

@@ -41,15 +41,23 @@ fn assert_same(message: &[u8]) {
         assert_eq!(calls::rate(message, number), place.map_or(0, |bid| bid.rate.0));
         assert_eq!(calls::amount(message, number), place.map_or(0, |bid| bid.amount.0));
     }
-    for length in [0, 44, 45, 46, 50] {
-        assert_same_numbers(message, length);
+    assert_same_numbers(message);
+}
+
+/// Holds the numbers of a whole message to those of the single calls, in arrays of every length.
+fn assert_same_numbers(message: &[u8]) {
+    let numbers = expected_numbers(message);
+    for length in 0..=calls::NUMBERS + 5 {
+        let mut array = vec![7; length];
+        let answer = calls::numbers(message, &mut array);
+        let given = if answer == 0 { length.min(calls::NUMBERS) } else { 0 };
+        assert_eq!(answer, calls::read(message));
+        assert_eq!(array[..given], numbers[..given]);
+        assert!(array[given..].iter().all(|&entry| entry == 7));
     }
 }
 
-/// Holds the numbers of a whole message to those of the single calls.
-fn assert_same_numbers(message: &[u8], length: usize) {
-    let mut space = vec![7; length];
-    let answer = calls::numbers(message, &mut space);
+fn expected_numbers(message: &[u8]) -> Vec<u64> {
     let mut expected = Vec::new();
     for field in 1..7 {
         expected.push(calls::number(message, field));
@@ -62,14 +70,7 @@ fn assert_same_numbers(message: &[u8], length: usize) {
     }
     expected.extend([0, 7, 9].map(|field| calls::start(message, field) as u64));
     assert_eq!(expected.len(), calls::NUMBERS);
-    match (calls::read(message), length < calls::NUMBERS) {
-        (12, _) => assert_eq!((answer, space), (12, vec![7; length])),
-        (_, true) => assert_eq!((answer, space), (18, vec![7; length])),
-        (_, false) => {
-            expected.resize(length, 7);
-            assert_eq!((answer, space), (0, expected));
-        }
-    }
+    expected
 }
 
 #[test]

@@ -52,7 +52,7 @@ impl Comparison {
         let around = [&b"00000000"[..before], message, b"00000000"].concat();
         let message = &around[before..before + message.len()];
         let random = &mut Random::new(!seed);
-        reading::compare(message)?;
+        reading::compare(random, message, &mut self.tally)?;
         reading::count(message, &mut self.tally);
         if Independent::read(message) == 0 {
             writing::compare_own(random, message, &mut self.tally)?;

@@ -4,6 +4,7 @@ use crate::interface::{Fields, Independent, Interface, NUMBERS};
 use crate::library::Library;
 use crate::messages::difference::{same, Difference};
 use crate::messages::tally::{Outcome, Tally, DIGIT_FIELDS};
+use crate::random::Random;
 use independent::application::{is_identifier, PLACES};
 use independent::interface::NUMBERS as NUMBERS_READ;
 
@@ -16,17 +17,16 @@ const NAME: u32 = 9;
 const ASKED: [u32; 16] =
     [0, 1, 2, 3, 4, 5, 6, 7, 8, 9, 10, 11, 0x103, 0x1_0003, 0x8000_0003, u32::MAX];
 
-/// Spaces for the numbers of a message: short ones, one that just holds them, and longer ones.
-const SPACES: [usize; 6] = [0, 1, NUMBERS_READ - 1, NUMBERS_READ, NUMBERS_READ + 1, 64];
+/// Into how many arrays the numbers of a message are read, and how long the longest can be.
+const ARRAYS: usize = 6;
+pub const LONGEST_ARRAY: usize = NUMBERS_READ + 5;
 
 /// Compares every call that reads the message.
-pub fn compare(message: &[u8]) -> Result<(), Difference> {
+pub fn compare(random: &mut Random, message: &[u8], tally: &mut Tally) -> Result<(), Difference> {
     same(Library::read(message), Independent::read(message), || "read".to_string())?;
-    SPACES.into_iter().try_for_each(|length| {
-        same(numbers::<Library>(message, length), numbers::<Independent>(message, length), || {
-            format!("numbers, into a space of {length}")
-        })
-    })?;
+    for _ in 0..ARRAYS {
+        compare_numbers(message, random.index(LONGEST_ARRAY + 1), tally)?;
+    }
     ASKED.into_iter().try_for_each(|number| {
         same(
             field_answers::<Library>(message, number),
@@ -41,7 +41,17 @@ pub fn compare(message: &[u8]) -> Result<(), Difference> {
     })
 }
 
-/// The answer to reading all numbers, and the whole space after it with numbers on either side.
+/// Compares the reading of all numbers into an array of this length.
+fn compare_numbers(message: &[u8], length: usize, tally: &mut Tally) -> Result<(), Difference> {
+    let (library, expected) =
+        (numbers::<Library>(message, length), numbers::<Independent>(message, length));
+    if expected.0 == 0 {
+        tally.add(Outcome::Array(length));
+    }
+    same(library, expected, || format!("numbers, into an array of {length}"))
+}
+
+/// The answer to reading all numbers, and the whole array after it with numbers on either side.
 fn numbers<I: Interface>(message: &[u8], length: usize) -> (u32, Vec<u64>) {
     let mut around: Vec<u64> =
         (1..).map(|index| index * 0x0123_4567_89ab_cdef).take(length + 4).collect();

@@ -2,6 +2,7 @@
 
 use crate::interface::NUMBERS;
 use crate::messages::damage;
+use crate::messages::reading::LONGEST_ARRAY;
 use crate::messages::writing::UNFIT_PARTS;
 use independent::application::PLACES;
 use std::collections::BTreeMap;
@@ -22,6 +23,8 @@ pub enum Outcome {
     NoNumber(u32),
     Place(u32),
     NoPlace(u32),
+    /// All numbers read into an array of this length.
+    Array(usize),
     /// Writing from a message's fields or from others: done, or refused.
     Written,
     Unfit,
@@ -68,6 +71,7 @@ fn all() -> Vec<Vec<Outcome>> {
         DIGIT_FIELDS.flat_map(|field| [Number(field), NoNumber(field)]).collect(),
         places.clone().map(Place).collect(),
         places.map(NoPlace).collect(),
+        (0..=LONGEST_ARRAY).map(Array).collect(),
         vec![Written, Unfit, NoRoom, UnfitBeforeRoom],
         (0..UNFIT_PARTS).map(UnfitPart).collect(),
     ]
@@ -99,6 +103,7 @@ fn name(outcome: Outcome) -> String {
         Outcome::NoNumber(field) => format!("{} none", field_name(field)),
         Outcome::Place(place) => format!("place {} well formed", place + 1),
         Outcome::NoPlace(place) => format!("place {} malformed", place + 1),
+        Outcome::Array(length) => format!("array of {length}"),
         Outcome::Written => "written".to_string(),
         Outcome::Unfit => "17".to_string(),
         Outcome::NoRoom => "18".to_string(),

@@ -1,7 +1,7 @@
 //! The calls that read.
 
 use super::words;
-use super::{NO_ROOM, NUMBERS, OK, UNREADABLE};
+use super::{NUMBERS, OK, UNREADABLE};
 use crate::application::{Field, LAYOUT, LENGTH, PLACES, PLACE_BYTES, STARTS};
 use crate::envelope::{self, HEADER};
 
@@ -85,14 +85,14 @@ fn place_of(message: &[u8; LENGTH], place: u32) -> Option<(u32, u64)> {
     Some((words::number(rate) as u32, amount))
 }
 
-/// 0 with the numbers of the message in the first of the space, else 12, or 18 where it is short.
+/// 0 with as many numbers of the message as the array has room for, else 12.
 #[inline(never)]
-pub fn numbers(message: &[u8], space: &mut [u64]) -> u32 {
+pub fn numbers(message: &[u8], array: &mut [u64]) -> u32 {
+    let Some(numbers) = array.first_chunk_mut::<NUMBERS>() else {
+        return first_numbers(message, array);
+    };
     let Some(message) = readable(message) else {
         return UNREADABLE;
-    };
-    let Some(numbers) = space.first_chunk_mut::<NUMBERS>() else {
-        return NO_ROOM;
     };
     let fields: [_; 6] = std::array::from_fn(|index| number_of(message, index as u32 + 1));
     for (pair, number) in numbers[..12].chunks_exact_mut(2).zip(fields) {
@@ -106,6 +106,17 @@ pub fn numbers(message: &[u8], space: &mut [u64]) -> u32 {
     let texts = [Field::Type, Field::Identifier, Field::Name];
     numbers[42..].copy_from_slice(&texts.map(|field| STARTS[field as usize] as u64));
     OK
+}
+
+/// The same for an array that is too short for all numbers.
+#[cold]
+fn first_numbers(message: &[u8], array: &mut [u64]) -> u32 {
+    let mut numbers = [0; NUMBERS];
+    let answer = self::numbers(message, &mut numbers);
+    if answer == OK {
+        array.copy_from_slice(&numbers[..array.len()]);
+    }
+    answer
 }
 
 /// 0 where the message is readable as a 6G1, else 12.

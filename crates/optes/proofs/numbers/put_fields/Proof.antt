@@ -2,12 +2,12 @@
 use borrow.Author.Needs.{needs}
 use mathlib.Core.Path.{ap, _∙_}
 use Prim.Native.Nat.{_≤_}
-use native.Mathlib.Omega.{arith}
 use denote.Ref.{now}
 use lib.ListN.{length}
 use Rattle.output.proofs.Output.{said}
 use Rattle.optes.specs.Numbers.{digitNumbers, fieldsNumbers}
-use Rattle.optes.proofs.Parts.{all-bytes, sender-part, recipient-part, cro-part, date-part, time-part, check-part, and-then}
+use Rattle.optes.proofs.Parts.{all-bytes, sender-part, recipient-part, cro-part, date-part, time-part, check-part}
+use Rattle.optes.proofs.Arrays.{and-then}
 use Rattle.optes.proofs.numbers.put_fields.Statement.{statement}
 use Rattle.optes.proofs.numbers.put_fields.Tie as tie
 

@@ -1,60 +1,49 @@
 -- `optes::numbers::put_number` meets its contract. Assumes nothing.
 use borrow.Author.Needs.{needs}
+use mathlib.Core.Path.{ap, _∙_}
+use mathlib.Core.List.{[], _∷_}
 use native.Mathlib.Omega.{arith}
-use denote.Ref.{now}
-use lib.ListN.{length-set}
-use Rattle.optes.proofs.Parts.{wrote-digits}
+use Rattle.output.proofs.Output.{then, said}
+use Rattle.optes.specs.Interface.{flag}
+use Rattle.optes.specs.Numbers.{digitNumbers}
+use Rattle.optes.proofs.Arrays.{flag-is}
 use Rattle.optes.proofs.numbers.put_number.Statement.{statement}
 use Rattle.optes.proofs.numbers.put_number.Tie as tie
 
 number-of-requires : tie.Need-number-of-requires
 number-of-requires c κs = search needs
 
-mul-numbers : tie.Need-mul-numbers
-mul-numbers c = search needs
-
-slice-write-numbers : tie.Need-slice-write-numbers
-slice-write-numbers c = search needs
+put-requires : tie.Need-put-requires
+put-requires c κs = search needs
 
 has-number-requires : tie.Need-has-number-requires
 has-number-requires c κs = search needs
 
-cast-numbers : tie.Need-cast-numbers
-cast-numbers c = search needs
+cast-put : tie.Need-cast-put
+cast-put c = search needs
 
-add-numbers : tie.Need-add-numbers
-add-numbers c = search needs
-
-mul-numbers-2 : tie.Need-mul-numbers-2
-mul-numbers-2 c = search needs
-
-slice-write-numbers-2 : tie.Need-slice-write-numbers-2
-slice-write-numbers-2 c = simp length-set (omega arith)
-
-add-result : tie.Need-add-result
-add-result c = search needs
+put-requires-2 : tie.Need-put-requires-2
+put-requires-2 c κs = search needs
 
 same-length : tie.Need-same-length
 same-length c = search needs
 
 returns : tie.Need-returns
+unfolding digitNumbers
 returns c =
-    let a = c .before .before .before .args in
-    let w = wrote-digits (now (a .numbers)) (a .at) (a .d) (omega arith) in
-    (rw (← c .before .number-of .ensures, ← c .has-number .ensures) at w, omega arith)
+    let w = then (omega arith) (c .before .before .before .before .before .before .before .put .ensures) (c .before .before .put2 .ensures) in
+    let n = c .before .before .before .before .before .before .before .before .number-of .ensures in
+    let f = flag-is (c .before .before .before .has-number .result) ∙ ap flag (c .before .before .before .has-number .ensures) in
+    (said (λ i. n i ∷ f i ∷ []) w, w .past)
 
 pub put-number-spec : {M : Type 1} → statement M
 put-number-spec =
     tie.close
     (tie.spec
     number-of-requires
-    mul-numbers
-    slice-write-numbers
+    put-requires
     has-number-requires
-    cast-numbers
-    add-numbers
-    mul-numbers-2
-    slice-write-numbers-2
-    add-result
+    cast-put
+    put-requires-2
     same-length
     returns)

@@ -1,67 +1,33 @@
 -- `optes::numbers::put_place` meets its contract. Assumes nothing.
 use borrow.Author.Needs.{needs}
-use native.Mathlib.Omega.{arith}
-use denote.Ref.{now}
-use lib.ListN.{length-set}
-use Rattle.optes.proofs.Parts.{wrote-place}
+use mathlib.Core.Path.{ap}
+use mathlib.Core.List.{[], _∷_}
+use Prim.Native.Nat.{ℕ}
+use Rattle.output.proofs.Output.{said}
+use Rattle.optes.specs.Numbers.{placeNumbers}
+use Rattle.optes.proofs.Arrays.{flag-is}
 use Rattle.optes.proofs.numbers.put_place.Statement.{statement}
 use Rattle.optes.proofs.numbers.put_place.Tie as tie
 
-cast-numbers : tie.Need-cast-numbers
-cast-numbers c = search needs
+cast-put-three : tie.Need-cast-put-three
+cast-put-three c = search needs
 
-mul-numbers : tie.Need-mul-numbers
-mul-numbers c = search needs
+cast-put-three-2 : tie.Need-cast-put-three-2
+cast-put-three-2 c = search needs
 
-slice-write-numbers : tie.Need-slice-write-numbers
-slice-write-numbers c = search needs
-
-add-numbers : tie.Need-add-numbers
-add-numbers c = search needs
-
-mul-numbers-2 : tie.Need-mul-numbers-2
-mul-numbers-2 c = search needs
-
-slice-write-numbers-2 : tie.Need-slice-write-numbers-2
-slice-write-numbers-2 c = simp length-set (omega arith)
-
-cast-numbers-2 : tie.Need-cast-numbers-2
-cast-numbers-2 c = search needs
-
-add-numbers-2 : tie.Need-add-numbers-2
-add-numbers-2 c = search needs
-
-mul-numbers-3 : tie.Need-mul-numbers-3
-mul-numbers-3 c = search needs
-
-slice-write-numbers-3 : tie.Need-slice-write-numbers-3
-slice-write-numbers-3 c = simp (length-set, length-set) (omega arith)
-
-add-result : tie.Need-add-result
-add-result c = search needs
+put-three-requires : tie.Need-put-three-requires
+put-three-requires c κs = search needs
 
 same-length : tie.Need-same-length
 same-length c = search needs
 
 returns : tie.Need-returns
+unfolding placeNumbers
 returns c =
-    let a = c .before .before .before .before .args in
-    (wrote-place (now (a .numbers)) (a .at) (a .p) (omega arith), omega arith)
+    let p = c .before .before .before .before .before .before .before .before .before .args .p in
+    let w = c .before .before .put-three .ensures in
+    (said (ap (λ (n : ℕ). p .rate .0 ∷ p .amount .0 ∷ n ∷ []) (flag-is (p .formed))) w, w .past)
 
 pub put-place-spec : {M : Type 1} → statement M
 put-place-spec =
-    tie.close
-    (tie.spec
-    cast-numbers
-    mul-numbers
-    slice-write-numbers
-    add-numbers
-    mul-numbers-2
-    slice-write-numbers-2
-    cast-numbers-2
-    add-numbers-2
-    mul-numbers-3
-    slice-write-numbers-3
-    add-result
-    same-length
-    returns)
+    tie.close (tie.spec cast-put-three cast-put-three-2 put-three-requires same-length returns)
