@@ -12,27 +12,7 @@ use borrow.Author.Tests.{ltb-true, ltb-false, leb-true, leb-false, eqb-true, lt-
 use Rattle.laws.proofs.Tests.{and-left, and-right}
 use Rattle.envelope.specs.declared.announcement.Side.{Side}
 use Rattle.envelope.specs.declared.announcement.Side.the-variants.{La, Lp}
-use Rattle.rules.specs.Allotment.{
-  Bid,
-  Offer,
-  betterRate,
-  isIn,
-  isBetter,
-  isEqual,
-  keep,
-  total,
-  totalBetter,
-  totalEqual,
-  share,
-  shares,
-  centsLeft,
-  cent,
-  award,
-  awardsFrom,
-  awards,
-  sum,
-  totalIn,
-}
+use Rattle.rules.specs.Allotment.{Bid, Offer, betterRate, isIn, isBetter, isEqual, keep, total, totalBetter, totalEqual, share, shares, centsLeft, cent, award, awardsFrom, awards, sum, totalIn}
 use Rattle.rules.proofs.Division.{share-is}
 use Rattle.rules.proofs.Kept.{Agree, keep-agree, Split, total-split, length-last}
 use Rattle.rules.proofs.Rates.{notWorse, split-rate}

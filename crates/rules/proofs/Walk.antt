@@ -9,25 +9,7 @@ use lib.Dec.{leb}
 use lib.ListN.{length}
 use borrow.Author.Tests.{leb-true, leb-false, le-leb}
 use Rattle.laws.proofs.Tests.{and-left, and-right}
-use Rattle.rules.specs.Allotment.{
-  Bid,
-  Offer,
-  betterRate,
-  isIn,
-  isBetter,
-  isEqual,
-  keep,
-  total,
-  totalBetter,
-  totalEqual,
-  reaches,
-  bestRate,
-  marginalRate,
-  pastRate,
-  isPast,
-  walkTo,
-  walk,
-}
+use Rattle.rules.specs.Allotment.{Bid, Offer, betterRate, isIn, isBetter, isEqual, keep, total, totalBetter, totalEqual, reaches, bestRate, marginalRate, pastRate, isPast, walkTo, walk}
 use Rattle.rules.proofs.Kept.{mem-keep, keep-mem, Agree, keep-agree, Split, total-split, length-keep, length-lt}
 use Rattle.rules.proofs.Rates.{not-itself, not-both, same-rate, also-better, notWorse, split-rate}
 use Rattle.rules.proofs.Best.{IsBest, is-best, best-unique, best-none, is-marginal}
