@@ -64,7 +64,7 @@ fn cents_at(a: Allotted, i: usize) -> u64
     requires { ⌜ i < 640 ⌝ }
 {
     let awards = a.awards;
-    awards[i]
+    awards[i].0
 }
 
 // An award above zero: code, place from 1, rate and eurocents.
