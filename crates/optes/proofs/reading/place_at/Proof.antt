@@ -6,14 +6,13 @@ use mathlib.Core.List.{List}
 use Prim.Native.Nat.{ℕ, _+_, _*_, _-_}
 use native.Mathlib.Omega.{arith}
 use denote.Ref.{now}
-use lib.ListN.{length, take, drop}
+use lib.ListN.{take, drop}
 use Rattle.layout.specs.Fields.{readable}
 use Rattle.places.specs.Bids.{placeOf, placesIn, placesOf}
 use Rattle.places.proofs.Reading.{length-places}
 use Rattle.envelope.specs.declared.application.Field.the-variants.{Bids}
 use Rattle.envelope.specs.declared.application.Fields.{Fields}
 use Rattle.envelope.specs.Application.{layout6G1, bytesOf, fieldsOf}
-use Rattle.envelope.proofs.Promise.{length-field}
 use Rattle.optes.specs.Interface.{placeNumbered, placeAt}
 use Rattle.optes.proofs.Interface.{fields-read, fields-none, place-there, place-past, place-none}
 use Rattle.optes.proofs.reading.place_at.Statement.{statement}
@@ -42,7 +41,7 @@ part-read-place-start c = search needs
 
 part-read-place-end : tie.Need-part-read-place-end
 part-read-place-end c =
-    let l = ap length (c .bytes-in .ensures) ∙ length-field (now (c .before .before .before .before .before .args .m)) (readable-there (c .before .before)) Bids in
+    let l = c .bytes-in .ensures .1 in
     omega (arith, l)
 
 read-place-requires : tie.Need-read-place-requires
@@ -54,7 +53,7 @@ returns c =
     let m = now (c .before .before .before .before .before .before .before .args .m) in
     let k = c .before .before .before .before .before .before .before .args .place in
     let n : 24 * k + 24 - 24 * k ≡ 24 = omega arith in
-    let e = c .read-place .ensures ∙ ap (λ (j : ℕ). placeOf (take j (drop (24 * k) (now (c .before .before .bytes-in .result))))) n ∙ ap (λ (s : List ℕ). placeOf (take 24 (drop (24 * k) s))) (c .before .before .bytes-in .ensures) in
+    let e = c .read-place .ensures ∙ ap (λ (j : ℕ). placeOf (take j (drop (24 * k) (now (c .before .before .bytes-in .result))))) n ∙ ap (λ (s : List ℕ). placeOf (take 24 (drop (24 * k) s))) (c .before .before .bytes-in .ensures .0) in
     e ∙ sym (ap (λ (f : Fields). placeNumbered k (f .places)) (fields-read m (readable-there (c .before .before .before .before))) ∙ place-there k (bytesOf Bids m) (c .before .before .before .if2 .taken))
 
 no-place-requires : tie.Need-no-place-requires
