@@ -24,6 +24,9 @@ unfolding bidsFrom
 length-bids rates amounts i zero = refl
 length-bids rates amounts i (suc d) = ap suc (length-bids rates amounts (suc i) d)
 
+pub ten-bids : (rates : List Rate) (amounts : List Amount) → length (bidsFrom rates amounts 0 10) ≡ 10
+ten-bids rates amounts = length-bids rates amounts 0 10
+
 -- the bid at an index of a window
 bid-in : (rates : List Rate) (amounts : List Amount) (i d k : ℕ) → k < d → getD (bidsFrom rates amounts i d) k noBid ≡ bidAt rates amounts (i + k)
 unfolding bidsFrom

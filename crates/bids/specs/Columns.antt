@@ -1,11 +1,15 @@
 -- Rates and amounts in columns, place by place, as document 01's bids. Assumes nothing.
+use mathlib.Core.Bool.{Bool}
 use mathlib.Core.List.{List, [], _∷_}
 use Prim.Native.Nat.{ℕ, zero, suc}
 use lib.ListN.{getD}
 use Rattle.places.specs.declared.Rate.{Rate}
 use Rattle.places.specs.declared.Amount.{Amount}
 use Rattle.rules.specs.Allotment as rules
+use Rattle.rules.specs.Receiving.{fineRate, smallBid, unevenBid}
 use Rattle.bids.specs.declared.Bid as declared
+use Rattle.bids.specs.declared.Fault.{Fault}
+use Rattle.bids.specs.declared.Fault.the-variants.{Fine, Small, Uneven}
 
 abbrev pub noRate : Rate
 noRate = record { 0 = 0 }
@@ -33,3 +37,9 @@ unfoldable pub bidsOf : List ℕ → List ℕ → List rules.Bid
 bidsOf [] amounts = []
 bidsOf (r ∷ rates) [] = []
 bidsOf (r ∷ rates) (a ∷ amounts) = record { rate = r; amount = a } ∷ bidsOf rates amounts
+
+-- 6G6-904, 905 and 906 of one bid, by the minimum and the increment
+abbrev pub faulty : Fault → ℕ → ℕ → rules.Bid → Bool
+faulty Fine minimum increment = fineRate
+faulty Small minimum increment = smallBid minimum
+faulty Uneven minimum increment = unevenBid minimum increment

@@ -8,7 +8,7 @@ ghost use lib.ListN.{length};
 ghost use Rattle.rules.specs.Allotment.{filled, keep};
 ghost use Rattle.rules.specs.Opening.{any};
 ghost use Rattle.rules.specs.Receiving.{gap, fineRate, smallBid, unevenBid, overMaximum};
-ghost use Rattle.bids.specs.Columns.{viewed, bidsFrom};
+ghost use Rattle.bids.specs.Columns.{viewed, faulty, bidsFrom};
 
 // A rate and an amount.
 pub struct Bid {
@@ -106,9 +106,33 @@ pub fn count(rates: [Rate; 10], amounts: [Amount; 10]) -> u64
     n
 }
 
-// Whether some rate is fine.
-pub fn any_fine(rates: [Rate; 10], amounts: [Amount; 10]) -> bool
-    ensures { λ r. ⌜ r ≡ any fineRate (bidsFrom rates amounts 0 10) ⌝ }
+// What can be wrong with a bid: a rate that is too fine, an amount that is too small or off the increment.
+enum Fault {
+    Fine,
+    Small,
+    Uneven,
+}
+
+// Whether a bid has a fault.
+fn has_fault(b: Bid, fault: Fault, minimum: Amount, increment: Amount) -> bool
+    ensures { λ r. ⌜ r ≡ faulty fault (minimum .0) (increment .0) (viewed b) ⌝ }
+{
+    match fault {
+        Fault::Fine => is_fine(b),
+        Fault::Small => is_small(b, minimum),
+        Fault::Uneven => is_uneven(b, minimum, increment),
+    }
+}
+
+// Whether some bid has a fault.
+fn any_with(
+    rates: [Rate; 10],
+    amounts: [Amount; 10],
+    fault: Fault,
+    minimum: Amount,
+    increment: Amount,
+) -> bool
+    ensures { λ r. ⌜ r ≡ any (faulty fault (minimum .0) (increment .0)) (bidsFrom rates amounts 0 10) ⌝ }
 {
     let mut found = false;
     let mut k = 0;
@@ -117,27 +141,24 @@ pub fn any_fine(rates: [Rate; 10], amounts: [Amount; 10]) -> bool
             rate: rates[k],
             amount: amounts[k],
         };
-        found = found | is_fine(b);
+        found = found | has_fault(b, fault, minimum, increment);
         k += 1;
     }
     found
+}
+
+// Whether some rate is fine.
+pub fn any_fine(rates: [Rate; 10], amounts: [Amount; 10]) -> bool
+    ensures { λ r. ⌜ r ≡ any fineRate (bidsFrom rates amounts 0 10) ⌝ }
+{
+    any_with(rates, amounts, Fault::Fine, Amount(0), Amount(0))
 }
 
 // Whether some filled place is small.
 pub fn any_small(rates: [Rate; 10], amounts: [Amount; 10], minimum: Amount) -> bool
     ensures { λ r. ⌜ r ≡ any (smallBid (minimum .0)) (bidsFrom rates amounts 0 10) ⌝ }
 {
-    let mut found = false;
-    let mut k = 0;
-    while k < 10 {
-        let b = Bid {
-            rate: rates[k],
-            amount: amounts[k],
-        };
-        found = found | is_small(b, minimum);
-        k += 1;
-    }
-    found
+    any_with(rates, amounts, Fault::Small, minimum, Amount(0))
 }
 
 // Whether some amount is uneven.
@@ -149,17 +170,7 @@ pub fn any_uneven(
 ) -> bool
     ensures { λ r. ⌜ r ≡ any (unevenBid (minimum .0) (increment .0)) (bidsFrom rates amounts 0 10) ⌝ }
 {
-    let mut found = false;
-    let mut k = 0;
-    while k < 10 {
-        let b = Bid {
-            rate: rates[k],
-            amount: amounts[k],
-        };
-        found = found | is_uneven(b, minimum, increment);
-        k += 1;
-    }
-    found
+    any_with(rates, amounts, Fault::Uneven, minimum, increment)
 }
 
 // n less an amount, and nothing where the amount is more.

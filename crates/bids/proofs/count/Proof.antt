@@ -7,7 +7,7 @@ use native.Mathlib.Omega.{arith}
 use lib.ListN.{length, drop, getD}
 use Rattle.rules.specs.Allotment.{noBid, filled, keep}
 use Rattle.bids.specs.Columns.{bidsFrom}
-use Rattle.bids.proofs.Columns.{length-bids, bid-is}
+use Rattle.bids.proofs.Columns.{ten-bids, bid-is}
 use Rattle.bids.proofs.Loops.{one-at-most, count-more, count-end}
 use Rattle.bids.proofs.count.Statement.{statement}
 use Rattle.bids.proofs.count.Tie as tie
@@ -48,9 +48,6 @@ add-k c = omega arith
 loop-less : tie.Need-loop-less Inv-loop μ-loop
 loop-less c = omega arith
 
-ten : (c : tie.Start Inv-loop μ-loop) → length (bidsFrom (c .args .t1) (c .args .t2) 0 10) ≡ 10
-ten c = length-bids (c .args .t1) (c .args .t2) 0 10
-
 loop-again : tie.Need-loop-again Inv-loop μ-loop
 loop-again c =
     let start = c .before .before .before .before .before .before in
@@ -59,14 +56,14 @@ loop-again c =
     let l = c .before .before .before .before .before .loop in
     let e : c .one-if .result ≡ cond (filled (getD bs (l .k) noBid)) 1 0 = c .one-if .ensures ∙ ap (λ (b : Bool). cond b 1 0) (c .before .is-filled .ensures ∙ ap filled (sym (bid-is (a .t1) (a .t2) 10 (l .k) (omega arith)))) in
     let small = one-at-most (filled (getD bs (l .k) noBid)) in
-    let more = count-more bs (l .k) (omega (arith, ten start)) in
+    let more = count-more bs (l .k) (omega (arith, ten-bids (start .args .t1) (start .args .t2))) in
     (omega arith, omega arith, omega arith)
 
 returns : tie.Need-returns Inv-loop μ-loop
 returns c =
     let start = c .before .before in
     let bs = bidsFrom (start .args .t1) (start .args .t2) 0 10 in
-    let none = count-end bs (c .before .loop .k) (omega (arith, ten start)) in
+    let none = count-end bs (c .before .loop .k) (omega (arith, ten-bids (start .args .t1) (start .args .t2))) in
     omega arith
 
 pub count-spec : {M : Type 1} → statement M

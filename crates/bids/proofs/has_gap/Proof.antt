@@ -8,7 +8,7 @@ use lib.ListN.{length, drop}
 use Rattle.rules.specs.Allotment.{filled}
 use Rattle.rules.specs.Receiving.{gap}
 use Rattle.bids.specs.Columns.{bidsFrom}
-use Rattle.bids.proofs.Columns.{length-bids, bid-is}
+use Rattle.bids.proofs.Columns.{ten-bids, bid-is}
 use Rattle.bids.proofs.Loops.{gapAfter, gap-more, gap-end}
 use Rattle.bids.proofs.has_gap.Statement.{statement}
 use Rattle.bids.proofs.has_gap.Tie as tie
@@ -43,9 +43,6 @@ add-k c = omega arith
 loop-less : tie.Need-loop-less Inv-loop μ-loop
 loop-less c = omega arith
 
-ten : (c : tie.Start Inv-loop μ-loop) → length (bidsFrom (c .args .t1) (c .args .t2) 0 10) ≡ 10
-ten c = length-bids (c .args .t1) (c .args .t2) 0 10
-
 loop-again : tie.Need-loop-again Inv-loop μ-loop
 loop-again c =
     let start = c .before .before .before .before .before in
@@ -53,13 +50,13 @@ loop-again c =
     let bs = bidsFrom (a .t1) (a .t2) 0 10 in
     let l = c .before .before .before .before .loop in
     let e = c .is-filled .ensures ∙ ap filled (sym (bid-is (a .t1) (a .t2) 10 (l .k) (omega arith))) in
-    (omega arith, ap (λ (b : Bool). (l .found || (l .ended && b)) || gapAfter (l .ended || not b) (drop (l .k + 1) bs)) e ∙ gap-more (l .found) (l .ended) bs (l .k) (omega (arith, ten start)) ∙ l .inv .1)
+    (omega arith, ap (λ (b : Bool). (l .found || (l .ended && b)) || gapAfter (l .ended || not b) (drop (l .k + 1) bs)) e ∙ gap-more (l .found) (l .ended) bs (l .k) (omega (arith, ten-bids (start .args .t1) (start .args .t2))) ∙ l .inv .1)
 
 returns : tie.Need-returns Inv-loop μ-loop
 returns c =
     let start = c .before .before in
     let l = c .before .loop in
-    sym (gap-end (l .found) (l .ended) (bidsFrom (start .args .t1) (start .args .t2) 0 10) (l .k) (omega (arith, ten start))) ∙ l .inv .1
+    sym (gap-end (l .found) (l .ended) (bidsFrom (start .args .t1) (start .args .t2) 0 10) (l .k) (omega (arith, ten-bids (start .args .t1) (start .args .t2)))) ∙ l .inv .1
 
 pub has-gap-spec : {M : Type 1} → statement M
 has-gap-spec =

@@ -12,7 +12,7 @@ use Rattle.places.specs.declared.Rate.{Rate}
 use Rattle.rules.specs.Allotment.{Bid, total}
 use Rattle.rules.specs.Receiving.{overMaximum}
 use Rattle.bids.specs.Columns.{noAmount, bidsFrom}
-use Rattle.bids.proofs.Columns.{length-bids, bid-is}
+use Rattle.bids.proofs.Columns.{ten-bids, bid-is}
 use Rattle.bids.proofs.Loops.{above-more, above-end}
 use Rattle.bids.proofs.is_over.Statement.{statement}
 use Rattle.bids.proofs.is_over.Tie as tie
@@ -43,9 +43,6 @@ add-k c = omega arith
 loop-less : tie.Need-loop-less Inv-loop μ-loop
 loop-less c = omega arith
 
-ten : (c : tie.Start Inv-loop μ-loop) (rates : List Rate) → length (bidsFrom rates (c .args .t2) 0 10) ≡ 10
-ten c rates = length-bids rates (c .args .t2) 0 10
-
 loop-again : tie.Need-loop-again Inv-loop μ-loop
 loop-again c =
     let start = c .before .before .before in
@@ -58,7 +55,7 @@ loop-again c =
           let e = ap (λ (b : Bid). b .amount) (sym (bid-is rates (start .args .t2) 10 (l .k) (omega arith))) in
           ap (λ (n : ℕ). (l .over || ltb (l .left) amount) || ltb n rest) (c .less .ensures)
           ∙ ap (λ (a : ℕ). (l .over || ltb (l .left) a) || ltb (l .left - a) rest) e
-          ∙ above-more (l .over) (l .left) bs (l .k) (omega (arith, ten start rates))
+          ∙ above-more (l .over) (l .left) bs (l .k) (omega (arith, ten-bids rates (start .args .t2)))
           ∙ l .inv .1 rates,
     )
 
@@ -68,7 +65,7 @@ returns c =
     let start = c .before .before .before in
     let a = start .args in
     let l = c .before .before .loop in
-    ap (λ (b : Bool). not (eqb (a .maximum .0) 0) && b) (sym (above-end (l .over) (l .left) (bidsFrom (a .rates) (a .t2) 0 10) (l .k) (omega (arith, ten start (a .rates)))) ∙ l .inv .1 (a .rates))
+    ap (λ (b : Bool). not (eqb (a .maximum .0) 0) && b) (sym (above-end (l .over) (l .left) (bidsFrom (a .rates) (a .t2) 0 10) (l .k) (omega (arith, ten-bids (a .rates) (a .t2)))) ∙ l .inv .1 (a .rates))
 
 pub is-over-spec : {M : Type 1} → statement M
 is-over-spec =
