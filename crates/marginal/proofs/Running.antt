@@ -19,7 +19,8 @@ use Rattle.rules.proofs.Rates.{notWorse, split-rate}
 use Rattle.rules.proofs.Best.{best-unique, best-none, is-marginal}
 use Rattle.bids.proofs.SideBySide.{member-at}
 use Rattle.offer.proofs.Sums.{keep-le}
-use Rattle.marginal.specs.Ranks.{keyBid, ranks, isKey, Ranked}
+use Rattle.offer.specs.Viewed.{ranks}
+use Rattle.marginal.specs.Ranks.{keyBid, isKey, Ranked}
 use Rattle.marginal.proofs.Sums.{cond-le, sum-within, sum-stops, sum-none, weight-amount, weight-test, weight-member}
 use Rattle.marginal.proofs.Ranks.{lower-rank, better-than}
 

@@ -13,7 +13,8 @@ use borrow.Author.Tests.{ltb-true, ltb-false, lt-ltb}
 use Rattle.sort.specs.Sorting.{weightOf}
 use Rattle.sort.proofs.Sorting.{weight-last}
 use Rattle.rules.specs.Allotment.{Bid, noBid, Offer, isIn, keep}
-use Rattle.marginal.specs.Ranks.{keyBid, ranks, isKey, weight, Ranked}
+use Rattle.offer.specs.Viewed.{ranks}
+use Rattle.marginal.specs.Ranks.{keyBid, isKey, weight, Ranked}
 use Rattle.marginal.proofs.Sums.{weight-more}
 
 -- the keys are those of the bids in among some of the bids

@@ -3,13 +3,12 @@ use mathlib.Core.Path.{_≡_}
 use mathlib.Core.Bool.{Bool, true, _&&_}
 use mathlib.Core.List.{List, [], _∷_}
 use mathlib.Core.Option.{Option, none, some}
-use Prim.Native.Nat.{ℕ, _+_, _/_, _%_, _<_}
-use lib.Dec.{ltb, eqb}
-use lib.ListN.{length, getD}
-use Rattle.envelope.specs.declared.announcement.Side.{Side}
-use Rattle.envelope.specs.declared.announcement.Side.the-variants.{La, Lp}
+use Prim.Native.Nat.{ℕ, _+_, _/_, _%_, _≤_, _<_}
+use lib.Dec.{ltb}
+use lib.ListN.{length, getD, take}
 use Rattle.sort.specs.Sorting.{weightOf}
 use Rattle.rules.specs.Allotment.{Bid, noBid, Offer, isIn, keep}
+use Rattle.offer.specs.Viewed.{ranks}
 use Rattle.marginal.specs.declared.MarginalRate.{MarginalRate}
 use Rattle.marginal.specs.declared.MarginalRate.the-variants as variants
 
@@ -21,11 +20,6 @@ rateIn variants.None = none
 -- the bid of a key: its index stands in the last ten binary digits
 abbrev pub keyBid : List Bid → ℕ → Bid
 keyBid bs k = getD bs (k % 1024) noBid
-
--- k is the rank of a rate: a better rate has a lower one
-unfoldable pub ranks : Side → ℕ → ℕ → Bool
-ranks La r k = eqb k r
-ranks Lp r k = eqb (k + r) 4294967295
 
 -- k is the key of a bid in
 unfoldable pub isKey : Offer → List Bid → ℕ → Bool
@@ -40,3 +34,8 @@ weight w (b ∷ bs) = w b + weight w bs
 pub record Ranked (o : Offer) (bs : List Bid) (keys : List ℕ) : Type 0 where
   pub are-keys : (j : ℕ) → j < length keys → isKey o bs (getD keys j 0) ≡ true
   pub weigh : (w : Bid → ℕ) → weightOf (λ k. w (keyBid bs k)) keys ≡ weight w (keep (isIn o) bs)
+
+-- the first n of the keys are those of the bids in, of at most so many
+pub record RankedFirst (o : Offer) (bs : List Bid) (most n : ℕ) (keys : List ℕ) : Type 0 where
+  pub few : n ≤ most
+  pub ranked : Ranked o bs (take n keys)

@@ -4,29 +4,27 @@ use bids::Bid;
 use envelope::announcement::Side;
 use offer::Offer;
 use offer::is_in;
+use offer::rank;
 use places::Amount;
 use places::Rate;
 use sort::sort;
 ghost use mathlib.Core.Path.{_≡_};
 ghost use mathlib.Core.Bool.{cond, true};
 ghost use Prim.Native.Nat.{_/_, _%_, _<_, _≤_};
-ghost use lib.ListN.{length, take};
+ghost use lib.ListN.{length};
 ghost use Rattle.sort.specs.Sorting.{Rising};
 ghost use Rattle.rules.specs.Allotment.{isIn, marginalRate, total};
 ghost use Rattle.bids.specs.Columns.{bidsOf};
 ghost use Rattle.bids.specs.Columns as columns;
-ghost use Rattle.offer.specs.Viewed.{viewed, mostBids};
-ghost use Rattle.marginal.specs.Ranks.{rateIn, ranks, Ranked};
+ghost use Rattle.offer.specs.Viewed.{viewed, ranks, mostBids};
+ghost use Rattle.marginal.specs.Ranks.{rateIn, Ranked, RankedFirst};
 
 // The key of a place: the rank of its rate, then its index, so that keys rise from the best rate to the worst and in book order at one rate.
 fn key(side: Side, rate: Rate, i: usize) -> u64
     requires { ⌜ i < 640 ⌝ }
     ensures { λ r. ⌜ (r % 1024 ≡ i) × (ranks side (rate .0) (r / 1024) ≡ true) ⌝ }
 {
-    match side {
-        Side::La => rate.0 as u64 * 1024 + i as u64,
-        Side::Lp => (4294967295 - rate.0 as u64) * 1024 + i as u64,
-    }
+    rank(side, rate) as u64 * 1024 + i as u64
 }
 
 // One for a bid in.
@@ -44,7 +42,7 @@ pub fn keys_in(o: Offer, rates: &[u32], amounts: &[u64], keys: &mut [u64]) -> us
     requires { ⌜ length (now rates) ≡ length (now amounts) ⌝ }
     requires { ⌜ length (now amounts) ≤ 640 ⌝ }
     requires { ⌜ length (now amounts) ≤ length (now keys) ⌝ }
-    ensures { λ r. ⌜ (r ≤ length (now (amounts .entry))) × Ranked (viewed o) (bidsOf (now (rates .entry)) (now (amounts .entry))) (take r (now (keys .exit))) ⌝ }
+    ensures { λ r. ⌜ RankedFirst (viewed o) (bidsOf (now (rates .entry)) (now (amounts .entry))) (length (now (amounts .entry))) r (now (keys .exit)) ⌝ }
 {
     let side = o.side;
     let mut n = 0;

@@ -10,9 +10,9 @@ ghost use mathlib.Core.Path.{_≡_};
 ghost use mathlib.Core.Bool.{cond};
 ghost use Prim.Native.Nat.{_≤_};
 ghost use lib.ListN.{length};
-ghost use Rattle.rules.specs.Allotment.{total, totalBetter, totalEqual};
+ghost use Rattle.rules.specs.Allotment.{total};
 ghost use Rattle.bids.specs.Columns.{bidsOf};
-ghost use Rattle.offer.specs.Viewed.{viewed, mostBids};
+ghost use Rattle.offer.specs.Viewed.{viewed, TotalsAt, mostBids};
 
 // A number where a condition holds, else zero.
 pub fn where_holds(condition: bool, n: u64) -> u64
@@ -28,7 +28,7 @@ pub fn where_holds(condition: bool, n: u64) -> u64
 pub fn totals(o: Offer, rates: &[u32], amounts: &[u64], rate: Rate) -> Totals
     requires { ⌜ length (now rates) ≡ length (now amounts) ⌝ }
     requires { ⌜ total (bidsOf (now rates) (now amounts)) ≤ mostBids ⌝ }
-    ensures { λ r. ⌜ (r .better .0 ≡ totalBetter (viewed o) (bidsOf (now (rates .entry)) (now (amounts .entry))) (rate .0)) × (r .equal .0 ≡ totalEqual (viewed o) (bidsOf (now (rates .entry)) (now (amounts .entry))) (rate .0)) ⌝ }
+    ensures { λ r. ⌜ TotalsAt (viewed o) (bidsOf (now (rates .entry)) (now (amounts .entry))) (rate .0) r ⌝ }
 {
     let mut better = 0;
     let mut equal = 0;

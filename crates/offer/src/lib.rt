@@ -8,10 +8,11 @@ use envelope::announcement::Side;
 use places::Amount;
 use places::Rate;
 ghost use mathlib.Core.Path.{_≡_};
+ghost use mathlib.Core.Bool.{true};
 ghost use lib.Dec.{ltb};
 ghost use Rattle.rules.specs.Allotment.{betterRate, isIn, isBetter, isEqual, sum};
 ghost use Rattle.bids.specs.Columns as columns;
-ghost use Rattle.offer.specs.Viewed.{viewed, mostBids};
+ghost use Rattle.offer.specs.Viewed.{viewed, ranks, mostBids};
 
 // What allotting takes from the announcement.
 pub struct Offer {
@@ -26,14 +27,21 @@ pub struct Totals {
     pub equal: Amount,
 }
 
+// The rank of a rate: a better rate has a lower one, so that both sides compare alike.
+pub fn rank(side: Side, rate: Rate) -> u32
+    ensures { λ r. ⌜ ranks side (rate .0) r ≡ true ⌝ }
+{
+    match side {
+        Side::La => rate.0,
+        Side::Lp => 4294967295 - rate.0,
+    }
+}
+
 // Whether a rate is better than another.
 pub fn is_better(side: Side, rate: Rate, other: Rate) -> bool
     ensures { λ r. ⌜ r ≡ betterRate side (rate .0) (other .0) ⌝ }
 {
-    match side {
-        Side::La => rate.0 < other.0,
-        Side::Lp => other.0 < rate.0,
-    }
+    rank(side, rate) < rank(side, other)
 }
 
 // Whether a place holds a bid within the limit rate.

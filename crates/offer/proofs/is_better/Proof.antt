@@ -1,28 +1,19 @@
 -- `offer::is_better` meets its contract. Assumes nothing.
 use borrow.Author.Needs.{needs}
-use mathlib.Core.Path.{sym, ap}
-use Rattle.envelope.specs.declared.announcement.Side.{Side}
-use Rattle.rules.specs.Allotment.{betterRate}
+use Rattle.offer.proofs.Ranks.{ranks-compare}
 use Rattle.offer.proofs.is_better.Statement.{statement}
 use Rattle.offer.proofs.is_better.Tie as tie
 
-enum-told : tie.Need-enum-told
-enum-told c = search needs
+rank-requires : tie.Need-rank-requires
+rank-requires c κs = search needs
 
-enum-told-2 : tie.Need-enum-told-2
-enum-told-2 c = search needs
+rank-requires-2 : tie.Need-rank-requires-2
+rank-requires-2 c κs = search needs
 
 returns : tie.Need-returns
-unfolding betterRate
 returns c =
-    let a = c .before .before .before .before .args in
-    sym (ap (λ (s : Side). betterRate s (a .rate .0) (a .other .0)) (c .before .before .enum-told .given .1))
-
-returns-2 : tie.Need-returns-2
-unfolding betterRate
-returns-2 c =
-    let a = c .before .before .before .before .args in
-    sym (ap (λ (s : Side). betterRate s (a .rate .0) (a .other .0)) (c .before .before .enum-told2 .given .1))
+    let a = c .before .before .args in
+    ranks-compare (a .side) (a .rate .0) (a .other .0) (c .before .rank .result) (c .rank2 .result) (c .before .rank .ensures) (c .rank2 .ensures)
 
 pub is-better-spec : {M : Type 1} → statement M
-is-better-spec = tie.close (tie.spec enum-told enum-told-2 returns returns-2)
+is-better-spec = tie.close (tie.spec rank-requires rank-requires-2 returns)

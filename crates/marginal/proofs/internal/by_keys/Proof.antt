@@ -17,7 +17,7 @@ part-walk-end : tie.Need-part-walk-end
 part-walk-end c = search needs
 
 walk-requires : tie.Need-walk-requires
-walk-requires c κs = (search needs, (search needs, rw sub-zero (c .before .before .before .keys-in .ensures .1)))
+walk-requires c κs = (search needs, (search needs, rw sub-zero (c .before .before .before .keys-in .ensures .ranked)))
 
 same-length : tie.Need-same-length
 same-length c = search needs

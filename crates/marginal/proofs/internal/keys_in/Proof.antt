@@ -9,8 +9,7 @@ use lib.ListN.{length, take, length-set}
 use Rattle.rules.specs.Allotment.{Bid, isIn}
 use Rattle.bids.specs.Columns.{bidsOf}
 use Rattle.bids.proofs.SideBySide.{bidIn, length-of, bid-of}
-use Rattle.offer.specs.Viewed.{viewed}
-use Rattle.marginal.specs.Ranks.{ranks}
+use Rattle.offer.specs.Viewed.{viewed, ranks}
 use Rattle.marginal.proofs.Sums.{cond-le}
 use Rattle.marginal.proofs.Storing.{Among, no-keys, ranked-more, ranked-all}
 use Rattle.marginal.proofs.internal.keys_in.Statement.{statement}
@@ -95,7 +94,7 @@ returns c =
     let a = start .args in
     let l = c .before .loop in
     let all = length-of (now (a .rates)) (now (a .amounts)) (start .pre .0) in
-    (omega arith, ranked-all (viewed (a .o)) (bidsOf (now (a .rates)) (now (a .amounts))) (l .i) (take (l .n) (l .keys)) (omega (arith, all)) (l .inv .3))
+    record { few = omega arith; ranked = ranked-all (viewed (a .o)) (bidsOf (now (a .rates)) (now (a .amounts))) (l .i) (take (l .n) (l .keys)) (omega (arith, all)) (l .inv .3) }
 
 pub keys-in-spec : {M : Type 1} → statement M
 keys-in-spec =

@@ -106,10 +106,11 @@ returns c =
     let a = start .args in
     let bs = bidsOf (now (a .rates)) (now (a .amounts)) in
     let l = c .before .loop in
-    let all : length bs ≤ l .i = omega (arith, length-of (now (a .rates)) (now (a .amounts)) (start .pre .0)) in (
-      added-all (isBetter (viewed (a .o)) (a .rate .0)) bs (l .i) (l .better) all (l .inv .0),
-      added-all (isEqual (viewed (a .o)) (a .rate .0)) bs (l .i) (l .equal) all (l .inv .1),
-    )
+    let all : length bs ≤ l .i = omega (arith, length-of (now (a .rates)) (now (a .amounts)) (start .pre .0)) in
+    record {
+      better-is = added-all (isBetter (viewed (a .o)) (a .rate .0)) bs (l .i) (l .better) all (l .inv .0);
+      equal-is = added-all (isEqual (viewed (a .o)) (a .rate .0)) bs (l .i) (l .equal) all (l .inv .1);
+    }
 
 pub totals-spec : {M : Type 1} → statement M
 totals-spec =
