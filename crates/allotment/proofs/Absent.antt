@@ -5,29 +5,8 @@ use mathlib.Core.Bool.{Bool, false, cond}
 use mathlib.Core.List.{List, [], _∷_, _++_}
 use Prim.Native.Nat.{ℕ, zero, suc, _+_, _-_}
 use lib.ListN.{length, replicate}
-use Rattle.rules.specs.Allotment.{
-  Bid,
-  noBid,
-  filled,
-  Offer,
-  isIn,
-  isBetter,
-  isEqual,
-  keep,
-  total,
-  totalBetter,
-  totalEqual,
-  division,
-  share,
-  shares,
-  centsLeft,
-  award,
-  awardsFrom,
-  awards,
-  reaches,
-  bestRate,
-  marginalRate,
-}
+use Rattle.rules.specs.Allotment.{Bid, noBid, filled, Offer, isIn, isBetter, isEqual, keep, total, totalBetter, totalEqual}
+use Rattle.rules.specs.Allotment.{division, share, shares, centsLeft, award, awardsFrom, awards, reaches, bestRate, marginalRate}
 use Rattle.rules.specs.Calls.{places640}
 use Rattle.rules.proofs.Kept.{keep-agree}
 

@@ -8,22 +8,8 @@ use native.Mathlib.Omega.{arith}
 use lib.Dec.{leb}
 use borrow.Author.Tests.{leb-true, leb-false, le-leb, eq-eqb, not-true}
 use Rattle.laws.proofs.Tests.{and-left, and-right}
-use Rattle.rules.specs.Allotment.{
-  Bid,
-  Offer,
-  filled,
-  betterRate,
-  isIn,
-  isBetter,
-  isEqual,
-  keep,
-  total,
-  totalBetter,
-  totalEqual,
-  award,
-  reaches,
-  marginalRate,
-}
+use Rattle.rules.specs.Allotment.{Bid, Offer, filled, betterRate, isIn, isBetter, isEqual}
+use Rattle.rules.specs.Allotment.{keep, total, totalBetter, totalEqual, award, reaches, marginalRate}
 use Rattle.rules.proofs.Kept.{mem-keep, keep-mem, total-cons, total-split}
 use Rattle.rules.proofs.Rates.{also-better, notWorse, split-rate}
 use Rattle.rules.proofs.Best.{IsBest, is-marginal}

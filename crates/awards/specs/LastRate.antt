@@ -50,3 +50,8 @@ LastRate o bs r =
 unfoldable pub lastOf : Offer → Option ℕ → ℕ
 lastOf o none = o .limit
 lastOf o (some r) = r
+
+-- what serving all bids writes, and what those at the last rate are served together
+pub record ServesAll (o : Offer) (r b e : ℕ) (bs : List Bid) (after : List ℕ) (shared : ℕ) : Type 0 where
+  pub awards-are : after ≡ servedAll o r b e bs
+  pub shared-is : shared ≡ sharedAt o r b e bs

@@ -20,7 +20,7 @@ ghost use Rattle.rules.specs.Allotment as rules;
 ghost use Rattle.bids.specs.Columns.{bidsOf};
 ghost use Rattle.bids.specs.Columns as columns;
 ghost use Rattle.offer.specs.Viewed.{viewed, mostBids};
-ghost use Rattle.awards.specs.LastRate.{sharedOut, served, servedAll, sharedAt, centsAt, servedIn, centsIn, LastRate};
+ghost use Rattle.awards.specs.LastRate.{sharedOut, served, centsAt, servedIn, centsIn, LastRate, ServesAll};
 
 // What an amount at the last rate gets, the cents left apart.
 fn shared_out(q: Amount, b: Amount, e: Amount, amount: Amount) -> Amount
@@ -98,7 +98,7 @@ fn serve_all(
     requires { ⌜ length (now awards) ≡ length (now amounts) ⌝ }
     requires { ⌜ total (bidsOf (now rates) (now amounts)) ≤ mostBids ⌝ }
     requires { ⌜ b .0 + e .0 ≤ mostBids ⌝ }
-    ensures { λ r. ⌜ (now (awards .exit) ≡ servedAll (viewed o) (last .0) (b .0) (e .0) (bidsOf (now (rates .entry)) (now (amounts .entry)))) × (r ≡ sharedAt (viewed o) (last .0) (b .0) (e .0) (bidsOf (now (rates .entry)) (now (amounts .entry)))) ⌝ }
+    ensures { λ r. ⌜ ServesAll (viewed o) (last .0) (b .0) (e .0) (bidsOf (now (rates .entry)) (now (amounts .entry))) (now (awards .exit)) r ⌝ }
 {
     let mut shared = 0;
     let mut i = 0;

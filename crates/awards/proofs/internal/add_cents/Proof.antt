@@ -1,44 +1,34 @@
 -- `awards::internal::add_cents` meets its contract. The loop's invariant: the first awards have their cents, and the bids at the last rate passed
 -- have taken theirs from the cents left. Assumes nothing.
 use borrow.Author.Needs.{needs}
-use mathlib.Core.Path.{_≡_, refl, sym, ap, _∙_}
-use mathlib.Core.List.{_++_}
-use Prim.Native.Nat.{ℕ, _+_, _-_}
+use mathlib.Core.Path.{_≡_, refl}
+use Prim.Native.Nat.{_-_}
 use native.Mathlib.Omega.{arith}
 use denote.Ref.{now}
-use lib.ListN.{length, take, drop, getD, length-set}
-use Rattle.laws.proofs.Arrays.{fill-more, fill-all}
-use Rattle.rules.specs.Allotment.{isEqual, keep, totalBetter, totalEqual}
-use Rattle.rules.specs.Allotment as rules
+use lib.ListN.{length}
+use Rattle.rules.specs.Allotment.{keep}
 use Rattle.bids.specs.Columns.{bidsOf}
-use Rattle.bids.proofs.SideBySide.{bidIn, length-of}
 use Rattle.offer.specs.Viewed.{viewed}
-use Rattle.awards.proofs.Award.{served-le, bidServed}
-use Rattle.awards.proofs.Loops.{length-awards, length-served, amount-le, award-cent, cents-more, still-served}
+use Rattle.awards.proofs.Loops.{CentsTo, long-old, served-within, cents-more, cents-all}
 use Rattle.awards.proofs.internal.add_cents.Statement.{statement}
 use Rattle.awards.proofs.internal.add_cents.Tie as tie
 
 abbrev Inv-loop : tie.InvT-loop
-Inv-loop o rates amounts last cents awards₀ left₀ i₀ awards left i =
-    (length awards ≡ length awards₀)
-    × (awards ≡ take i (rules.awards (viewed o) (bidsOf rates amounts)) ++ drop i awards₀)
-    × (left ≡ cents - length (keep (isEqual (viewed o) (last .0)) (take i (bidsOf rates amounts))))
+Inv-loop o rates amounts last cents awards₀ left₀ i₀ awards left i = CentsTo (viewed o) (last .0) cents (bidsOf rates amounts) awards₀ awards left i
 
 abbrev μ-loop : tie.MeasureT-loop
 μ-loop o rates amounts last cents awards₀ left₀ i₀ awards left i = length amounts - i
 
+-- there are as many awards as amounts
 length-before : (c : tie.Start Inv-loop μ-loop) → length (now (c .args .awards)) ≡ length (now (c .args .amounts))
 length-before c =
     let a = c .args in
-    let o = viewed (a .o) in
-    let bs = bidsOf (now (a .rates)) (now (a .amounts)) in
-    ap length (c .pre .1 .1 .1 .1)
-    ∙ length-served o (a .last .0) (totalBetter o bs (a .last .0)) (totalEqual o bs (a .last .0)) bs
-    ∙ length-of (now (a .rates)) (now (a .amounts)) (c .pre .0)
+    let p = c .pre in
+    long-old (now (a .rates)) (now (a .amounts)) (p .0) (viewed (a .o)) (a .last .0) (p .1 .1 .0) (a .cents) (p .1 .1 .1 .0) (now (a .awards)) (p .1 .1 .1 .1)
 
 loop-holds : tie.Need-loop-holds Inv-loop μ-loop
 unfolding keep
-loop-holds c = (omega arith, refl, omega arith)
+loop-holds c = ((refl, refl), omega arith)
 
 mul-t11 : tie.Need-mul-t11 Inv-loop μ-loop
 mul-t11 c = omega arith
@@ -61,39 +51,17 @@ mul-awards-2 c = omega arith
 slice-read-awards : tie.Need-slice-read-awards Inv-loop μ-loop
 slice-read-awards c = omega (arith, length-before (c .before .before .before .before .before .before .before .before .before))
 
--- the award so far
-was-served : (c : tie.After-slice-known2 Inv-loop μ-loop)
-    → (let a = c .before .before .before .before .before .before .before .before .before .args in let l = c .before .before .before .before .before .loop in
-    getD (l .awards) (l .i) 0
-    ≡ bidServed (viewed (a .o)) (bidsOf (now (a .rates)) (now (a .amounts))) (a .last .0) (bidIn (now (a .rates)) (now (a .amounts)) (l .i)))
-was-served c =
-    let start = c .before .before .before .before .before .before .before .before .before in
-    let a = start .args in
-    let rates = now (a .rates) in
-    let amounts = now (a .amounts) in
-    let bs = bidsOf rates amounts in
-    let o = viewed (a .o) in
-    let l = c .before .before .before .before .before .loop in
-    still-served rates amounts (start .pre .0) o (a .last .0) (l .i) (rules.awards o bs) (now (a .awards)) (l .awards) (omega arith)
-    (length-awards o bs ∙ length-of rates amounts (start .pre .0))
-    (start .pre .1 .1 .1 .1)
-    (l .inv .1)
-
 add-awards : tie.Need-add-awards Inv-loop μ-loop
 add-awards c =
     let start = c .before .before .before .before .before .before .before .before .before in
     let a = start .args in
-    let rates = now (a .rates) in
-    let amounts = now (a .amounts) in
-    let bs = bidsOf rates amounts in
-    let o = viewed (a .o) in
+    let p = start .pre in
     let l = c .before .before .before .before .before .loop in
     omega (
       arith,
-      was-served c,
-      served-le o (a .last .0) (totalBetter o bs (a .last .0)) (totalEqual o bs (a .last .0)) (bidIn rates amounts (l .i)),
-      amount-le rates amounts (start .pre .0) (l .i),
-      start .pre .1 .0,
+      served-within (now (a .rates)) (now (a .amounts)) (p .0) (viewed (a .o)) (a .last .0) (p .1 .1 .0) (a .cents) (p .1 .1 .1 .0) (now (a .awards)) (p .1 .1 .1 .1)
+          (l .awards) (l .left) (l .i) (l .inv) (omega arith),
+      p .1 .0,
       c .before .cent .ensures .2,
     )
 
@@ -116,40 +84,23 @@ loop-again : tie.Need-loop-again Inv-loop μ-loop
 loop-again c =
     let start = c .before .before .before .before .before .before .before .before .before in
     let a = start .args in
-    let rates = now (a .rates) in
-    let amounts = now (a .amounts) in
-    let bs = bidsOf rates amounts in
-    let o = viewed (a .o) in
+    let p = start .pre in
     let l = c .before .before .before .before .before .loop in
-    let cent = c .before .cent in (
-      simp length-set (l .inv .0),
-      fill-more (rules.awards o bs) (now (a .awards)) (l .awards) (l .i) (getD (l .awards) (l .i) 0 + cent .result) 0
-          (omega (arith, length-awards o bs, length-of rates amounts (start .pre .0)))
-          (omega (arith, length-before start))
-          (ap (λ (n : ℕ). n + cent .result) (was-served c)
-          ∙ sym
-          (award-cent rates amounts (start .pre .0) o (l .i) (a .last .0) (a .cents) (l .left) (cent .result) (omega arith) (l .inv .2) (cent .ensures .0) (start .pre .1 .1 .0)
-          (start .pre .1 .1 .1 .0)))
-          (l .inv .1),
-      cents-more rates amounts (start .pre .0) o (l .i) (a .last .0) (a .cents) (l .left) (cent .result) (omega arith) (l .inv .2) (cent .ensures .0),
-    )
+    let cent = c .before .cent in
+    cents-more (now (a .rates)) (now (a .amounts)) (p .0) (viewed (a .o)) (a .last .0) (p .1 .1 .0) (a .cents) (p .1 .1 .1 .0) (now (a .awards)) (p .1 .1 .1 .1)
+    (l .awards) (l .left) (l .i) (l .inv) (omega arith) (cent .result) (cent .ensures .0)
 
 same-length : tie.Need-same-length Inv-loop μ-loop
-same-length c = c .before .loop .inv .0
+same-length c = c .before .loop .inv .0 .0
 
 returns : tie.Need-returns Inv-loop μ-loop
 returns c =
     let start = c .before .before .before .before .before in
     let a = start .args in
-    let rates = now (a .rates) in
-    let amounts = now (a .amounts) in
-    let bs = bidsOf rates amounts in
-    let o = viewed (a .o) in
+    let p = start .pre in
     let l = c .before .loop in
-    l .inv .1
-    ∙ fill-all (rules.awards o bs) (now (a .awards)) (l .i)
-    (omega (arith, length-awards o bs, length-of rates amounts (start .pre .0)))
-    (omega (arith, length-before start))
+    cents-all (now (a .rates)) (now (a .amounts)) (p .0) (viewed (a .o)) (a .last .0) (p .1 .1 .0) (a .cents) (p .1 .1 .1 .0) (now (a .awards)) (p .1 .1 .1 .1)
+    (l .awards) (l .left) (l .i) (l .inv) (omega arith)
 
 pub add-cents-spec : {M : Type 1} → statement M
 add-cents-spec =

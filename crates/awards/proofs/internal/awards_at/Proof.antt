@@ -22,8 +22,8 @@ within c =
     let a = start .args in
     omega (
       arith,
-      c .totals .ensures .0,
-      c .totals .ensures .1,
+      c .totals .ensures .better-is,
+      c .totals .ensures .equal-is,
       totals-le (viewed (a .o)) (bidsOf (now (a .rates)) (now (a .amounts))) (a .last .0),
       start .pre .1 .1 .0,
     )
@@ -45,9 +45,9 @@ served c =
     let a = start .args in
     let t = c .before .before .before .before .before .before .before .totals in
     let all = c .before .before .before .serve-all in
-    served-are (viewed (a .o)) (bidsOf (now (a .rates)) (now (a .amounts))) (a .last .0) (t .result .better .0) (t .result .equal .0) _ (t .ensures .0)
-    (t .ensures .1)
-    (all .ensures .0)
+    served-are (viewed (a .o)) (bidsOf (now (a .rates)) (now (a .amounts))) (a .last .0) (t .result .better .0) (t .result .equal .0) _ (t .ensures .better-is)
+    (t .ensures .equal-is)
+    (all .ensures .awards-are)
 
 left : (c : tie.After-cents-left)
     → (let a = c .before .before .before .before .before .before .before .before .before .before .before .args in
@@ -59,9 +59,9 @@ left c =
     let all = c .before .before .before .serve-all in
     cents-are (viewed (a .o)) (bidsOf (now (a .rates)) (now (a .amounts))) (a .last .0) (t .result .better .0) (t .result .equal .0) (all .result)
     (c .cents-left .result)
-    (t .ensures .0)
-    (t .ensures .1)
-    (all .ensures .1)
+    (t .ensures .better-is)
+    (t .ensures .equal-is)
+    (all .ensures .shared-is)
     (c .cents-left .ensures)
 
 same-length : tie.Need-same-length
