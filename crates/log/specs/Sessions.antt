@@ -6,7 +6,7 @@ use lib.Dec.{T}
 use Rattle.digits.specs.Decimal.{digits}
 use Rattle.layout.specs.Fields.{field}
 use Rattle.texts.specs.Texts.{sameText, ascii}
-use Rattle.rules.specs.Marked.{announcement, message}
+use Rattle.rules.specs.Messages.{announcement, message}
 use Rattle.log.specs.Lines.{lineEnd}
 use Rattle.log.specs.Steps.{logOf}
 

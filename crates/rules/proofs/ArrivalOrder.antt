@@ -1,32 +1,28 @@
 -- Demand 3, from what the book holds and from the sum of the awards. Assumes nothing.
 use mathlib.Core.Path.{_≡_, refl, sym, _∙_, ap, ap₂, subst}
-use mathlib.Core.Bool.{Bool, true, false, cond, not, _&&_, _||_, and-false}
+use mathlib.Core.Bool.{Bool, true, false, cond, _&&_, _||_, and-false}
 use mathlib.Core.List.{List, [], _∷_, _++_, map, List·Memᴰ, List·Memᴰ·head, List·Memᴰ·tail}
-use mathlib.Core.Option.{Option, none, some}
-use Prim.Native.Nat.{ℕ, zero, suc, _+_, _-_, _*_, _^_, _≤_, _<_, min}
-use native.Mathlib.Nat.{pow-le-pow-right}
+use mathlib.Core.Option.{none}
+use Prim.Native.Nat.{ℕ, zero, suc, _+_, _-_, _≤_, min}
 use native.Mathlib.Omega.{arith}
-use lib.Dec.{ltb, eqb, lit<}
-use lib.ListN.{length, take, drop, getD, replicate, length-take}
-use borrow.Author.Tests.{ltb-false, le-ltb, not-false}
+use lib.Dec.{eqb}
+use lib.ListN.{length, replicate}
+use borrow.Author.Tests.{le-ltb}
 use Rattle.calendar.specs.Calendar.{validDate, validTime}
-use Rattle.laws.proofs.Tests.{and-right, or-left, or-right}
-use Rattle.digits.specs.Decimal.{allDigits, numberOf}
-use Rattle.digits.proofs.Reading.{below-length}
+use Rattle.laws.proofs.Tests.{or-left, or-right}
 use Rattle.layout.specs.Fields.{readable}
-use Rattle.places.specs.Bids.{slash, formedPlace, malformed, isPlace, placeOf, placesIn}
-use Rattle.envelope.specs.declared.application.Field.the-variants.{Bids}
 use Rattle.envelope.specs.Refusals.{firstHolding}
-use Rattle.envelope.specs.Application.{layout6G1, bytesOf}
+use Rattle.envelope.specs.Application.{layout6G1}
 use Rattle.rules.specs.Allotment.{Bid, noBid, filled, Offer, isIn, keep, total, awards, sum, totalIn}
-use Rattle.rules.specs.Opening.{Terms, any, notAnnouncement, otherOrigin, malformedAnnouncement, unknownType, impossibleNumbers, datesDisordered, badCodes, rising, openingRefused, termsOf, offerOf}
-use Rattle.rules.specs.Receiving.{Reception, messagePlaces, bidOf, messageBids, Error, when, errors, isEmpty, isSound, Submission, submission, Entry, newBook, isAfter, isFrom, takes, hold, returnedErrors}
+use Rattle.rules.specs.Opening.{Terms, any, openingRefused, termsOf, offerOf}
+use Rattle.rules.specs.Receiving.{Reception, Error, when, errors, isEmpty, isSound, Submission, submission, Entry, newBook, isAfter, isFrom, takes, hold, returnedErrors}
 use Rattle.rules.specs.Calls.{Open, Closed, Tender, inState, openTender, isRevoked, isOver, clockInvalid, spaceShort, beforeCutOff, isOpen, isAnnounced, bidsInBook, bidsExceed, receivingRefused, answerWith, bookAfter, answerUnless, receive, closingRefused, close, allottingRefused, places640, Allotted, allotment, allot}
-use Rattle.rules.specs.ArrivalOrder.{receiveAll, EnoughSpace, NoConflict, Rearranged, PastCutOff, afterReceptions, afterClosing, latest, bidsOfLatest, finalBids, allFinalBids, finalBook, Settled, ArrivalOrder, AnyLatest}
-use Rattle.rules.proofs.Kept.{mem-keep}
+use Rattle.rules.specs.ArrivalOrder.{receiveAll, EnoughSpace, NoConflict, Rearranged, PastCutOff, afterReceptions, afterClosing, finalBids, allFinalBids, finalBook, Settled, ArrivalOrder, AnyLatest}
 use Rattle.rules.proofs.Sum.{awards-sum}
 use Rattle.rules.proofs.Rearranging.{mem-map, map-mem, rearranged-mem, rearranged-back, rearranged-map}
-use Rattle.rules.proofs.Book.{Agreeing, holdAllIn, IsLatest, is-latest, finalEntry, book-final, book-rearranged, final-any}
+use Rattle.rules.proofs.Exceeding.{bids-never-exceed}
+use Rattle.rules.proofs.Cancelling.{ten-places}
+use Rattle.rules.proofs.Book.{Agreeing, TenBids, holdAllIn, finalEntry, book-final, book-rearranged, final-any}
 
 -- a message that no entry takes leaves the book
 none-taken : (s : Submission) (b : List Entry) → any (takes s) b ≡ false → map (hold s) b ≡ b
@@ -110,94 +106,16 @@ unfolding bidsInBook allFinalBids finalEntry
 bids-final [] ss = refl
 bids-final (c ∷ codes) ss = ap (λ (l : List Bid). finalBids c ss ++ l) (bids-final codes ss)
 
+ten-each : (t : Terms) (rs : List Reception) → TenBids (map (submission t) rs)
+ten-each t rs m k = let w = mem-map (submission t) rs k in ap (λ (s : Submission). length (s .bids)) (w .2) ∙ ten-places t (w .0)
+
 bids-after : (t : Terms) (rs : List Reception) → bidsInBook (holdAllIn (map (submission t) rs) (newBook (t .codes))) ≡ finalBook t rs
-bids-after t rs = ap bidsInBook (book-final (t .codes) (map (submission t) rs)) ∙ bids-final (t .codes) (map (submission t) rs)
+bids-after t rs = ap bidsInBook (book-final (t .codes) (map (submission t) rs) (ten-each t rs)) ∙ bids-final (t .codes) (map (submission t) rs)
 
--- all bids of a message are below 10^16 together, so that those of 64 codes are below condition 16's bound
-amount-below : (s : List ℕ) → placeOf s .amount .0 ≤ 999999999999999
-unfolding placeOf
-amount-below s = go (isPlace s) refl
-  where
-    go : (x : Bool) → isPlace s ≡ x → cond (isPlace s) (formedPlace (numberOf (take 8 s)) (numberOf (take 15 (drop 9 s)))) malformed .amount .0 ≤ 999999999999999
-    go false e = rw e (omega arith)
-    go true e =
-        let d : allDigits (take 15 (drop 9 s)) ≡ true = unfold isPlace in and-right (eqb (getD s 8 0) slash && allDigits (take 8 s)) (allDigits (take 15 (drop 9 s))) e in
-        let h = below-length (take 15 (drop 9 s)) d in
-        let l : length (take 15 (drop 9 s)) ≤ 15 = rw length-take (omega arith) in
-        let p : 10 ^ length (take 15 (drop 9 s)) ≤ 10 ^ 15 = pow-le-pow-right {n = 10} (lit< tt) {i = length (take 15 (drop 9 s))} {j = 15} l in
-        rw e (omega arith)
-
-places-below : (n : ℕ) (s : List ℕ) → total (map bidOf (placesIn n s)) ≤ 999999999999999 * n
-unfolding total placesIn
-places-below zero s = omega arith
-places-below (suc n) s = let h = amount-below (take 24 s) in let k = places-below n (drop 24 s) in omega arith
-
-message-below : (m : List ℕ) → total (messageBids m) ≤ 9999999999999990
-unfolding messageBids messagePlaces
-message-below m = let h = places-below 10 (bytesOf Bids m) in omega arith
-
-submission-below : (t : Terms) (r : Reception) → total (submission t r .bids) ≤ 9999999999999990
-unfolding submission
-submission-below t r = message-below (r .message)
-
-total-append : (xs ys : List Bid) → total (xs ++ ys) ≡ total xs + total ys
-unfolding total
-total-append [] ys = omega arith
-total-append (x ∷ xs) ys = omega (arith, total-append xs ys)
-
-module _ (t : Terms) (rs : List Reception) where
-  final-below : (c : ℕ) → total (finalBids c (map (submission t) rs)) ≤ 9999999999999990
-  unfolding finalBids bidsOfLatest total
-  final-below c = go (latest (keep (isFrom c) (map (submission t) rs))) (is-latest (keep (isFrom c) (map (submission t) rs)))
-    where
-      go : (l : Option Submission) → IsLatest (keep (isFrom c) (map (submission t) rs)) l → total (bidsOfLatest l) ≤ 9999999999999990
-      go none h = omega arith
-      go (some s) h = heard (mem-map (submission t) rs (mem-keep (isFrom c) (map (submission t) rs) (h .0) .0))
-        where
-          heard : (r : Reception) × List·Memᴰ r rs × (s ≡ submission t r) → total (s .bids) ≤ 9999999999999990
-          heard w = subst (λ (x : Submission). total (x .bids) ≤ 9999999999999990) (sym (w .2)) (submission-below t (w .0))
-
-  finals-below : (codes : List ℕ) → total (allFinalBids codes (map (submission t) rs)) ≤ 9999999999999990 * length codes
-  unfolding allFinalBids total
-  finals-below [] = omega arith
-  finals-below (c ∷ codes) = omega (arith, total-append (finalBids c (map (submission t) rs)) (allFinalBids codes (map (submission t) rs)), final-below c, finals-below codes)
-
--- what an accepted opening says: no condition holds, so that there are at most 64 codes
-pub next-condition : (n : ℕ) (b : Bool) (rest : List (ℕ × Bool)) → firstHolding ((n, b) ∷ rest) ≡ none → (b ≡ false) × (firstHolding rest ≡ none)
-unfolding firstHolding
-next-condition n false rest h = (refl, h)
-next-condition n true rest h = absurd (let z : _≡_ {A = ℕ} 0 1 = cc in omega arith)
-
-module _ (m codes : List ℕ) (h : openingRefused m codes ≡ none) where
-  codes-good : badCodes codes ≡ false
-  unfolding openingRefused
-  codes-good =
-      let c1 = next-condition 1 (notAnnouncement m) _ h in
-      let c2 = next-condition 2 (otherOrigin m) _ (c1 .1) in
-      let c3 = next-condition 3 (malformedAnnouncement m) _ (c2 .1) in
-      let c4 = next-condition 4 (unknownType m) _ (c3 .1) in
-      let c5 = next-condition 5 (impossibleNumbers m) _ (c4 .1) in
-      let c6 = next-condition 6 (datesDisordered m) _ (c5 .1) in
-      next-condition 7 (badCodes codes) _ (c6 .1) .0
-
-  pub few-codes : length codes ≤ 64
-  unfolding badCodes
-  few-codes =
-      ltb-false 64 (length codes)
-      (or-right (eqb (length codes) 0) (ltb 64 (length codes))
-      (or-left (eqb (length codes) 0 || ltb 64 (length codes)) (not (rising codes))
-      (or-left (eqb (length codes) 0 || ltb 64 (length codes) || not (rising codes)) (any (ltb 99999) codes) codes-good)))
-
-  pub rising-codes : rising codes ≡ true
-  unfolding badCodes
-  rising-codes =
-      not-false (rising codes)
-      (or-right (eqb (length codes) 0 || ltb 64 (length codes)) (not (rising codes))
-      (or-left (eqb (length codes) 0 || ltb 64 (length codes) || not (rising codes)) (any (ltb 99999) codes) codes-good))
-
-  opened : openTender m codes .1 ≡ openWith (termsOf m codes) (newBook codes)
-  unfolding openTender
-  opened = rw h
+-- what an accepted opening gives
+opened : (m codes : List ℕ) → openingRefused m codes ≡ none → openTender m codes .1 ≡ openWith (termsOf m codes) (newBook codes)
+unfolding openTender
+opened m codes h = rw h
 
 -- closing past the cut-off, and allotting then
 module _ (t : Terms) (b : List Entry) (date time : ℕ) (past : PastCutOff t date time) where
@@ -209,9 +127,9 @@ module _ (t : Terms) (b : List Entry) (date time : ℕ) (past : PastCutOff t dat
   unfolding close
   closed = rw closing-accepted
 
-  allotting-accepted : total (bidsInBook b) ≤ 999999999999999999 → allottingRefused (inState Closed (openWith t b)) ≡ none
-  unfolding allottingRefused firstHolding isRevoked isOpen isAnnounced bidsExceed
-  allotting-accepted l = rw (le-ltb 999999999999999999 (total (bidsInBook b)) l)
+  allotting-accepted : bidsExceed (inState Closed (openWith t b)) ≡ false → allottingRefused (inState Closed (openWith t b)) ≡ none
+  unfolding allottingRefused firstHolding isRevoked isOpen isAnnounced
+  allotting-accepted l = rw l
 
 -- the same receptions in another order
 module _ (t : Terms) (rs : List Reception) (agree : NoConflict t rs) where
@@ -225,7 +143,7 @@ module _ (t : Terms) (rs : List Reception) (agree : NoConflict t rs) where
   same-final : (rearranged : List Reception) → Rearranged rs rearranged → finalBook t rs ≡ finalBook t rearranged
   same-final rearranged p =
       sym (bids-after t rs)
-      ∙ ap bidsInBook (book-rearranged (t .codes) (map (submission t) rs) (map (submission t) rearranged) agreeing (rearranged-map (submission t) p))
+      ∙ ap bidsInBook (book-rearranged (t .codes) (map (submission t) rs) (map (submission t) rearranged) (ten-each t rs) agreeing (rearranged-map (submission t) p))
       ∙ bids-after t rearranged
 
 -- what holds after the receptions
@@ -241,18 +159,11 @@ module _ (m codes : List ℕ) (h : openingRefused m codes ≡ none) (rs : List R
   unfolding book termsOf
   bids-are = bids-after (termsOf m codes) rs
 
-  few-bids : total (bidsInBook book) ≤ 999999999999999999
-  unfolding termsOf
-  few-bids =
-      let l = few-codes m codes h in
-      let k = finals-below (termsOf m codes) rs codes in
-      rw bids-are (omega arith)
-
   closed-is : afterClosing m codes rs date time ≡ inState Closed (openWith (termsOf m codes) book)
   closed-is = ap (λ (x : Tender). close x date time .1) after-is ∙ closed (termsOf m codes) book date time past
 
   accepted : allottingRefused (inState Closed (openWith (termsOf m codes) book)) ≡ none
-  accepted = allotting-accepted (termsOf m codes) book date time past few-bids
+  accepted = allotting-accepted (termsOf m codes) book date time past (subst (λ (x : Tender). bidsExceed x ≡ false) closed-is (bids-never-exceed m codes rs .1 date time))
 
   settled : Settled m codes rs date time (finalBook (termsOf m codes) rs)
   unfolding close allot
@@ -265,7 +176,7 @@ module _ (m codes : List ℕ) (h : openingRefused m codes ≡ none) (rs : List R
 
 pub any-latest : AnyLatest
 any-latest t c rs agree r k f last =
-    final-any c (map (submission t) rs) (agreeing t rs agree) (submission t r) (map-mem (submission t) rs k) f
+    final-any c (map (submission t) rs) (ten-each t rs) (agreeing t rs agree) (submission t r) (map-mem (submission t) rs k) f
     (λ n hn hf. bound n (mem-map (submission t) rs hn) hf)
   where
     bound : (n : Submission) → (s : Reception) × List·Memᴰ s rs × (n ≡ submission t s) → isFrom c n ≡ true → n .time ≤ submission t r .time

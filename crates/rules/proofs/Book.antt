@@ -1,25 +1,32 @@
 -- What the book holds after a list of receptions: of each code the latest sound message, in whatever order they came. Assumes nothing.
 use mathlib.Core.Path.{_≡_, refl, sym, _∙_, ap, subst}
 use mathlib.Core.Logic.{_⊎_, inl, inr}
-use mathlib.Core.Bool.{Bool, true, false, _&&_, cond}
+use mathlib.Core.Bool.{Bool, true, false, not, _&&_, cond}
 use mathlib.Core.List.{List, [], _∷_, map, List·Memᴰ, List·Memᴰ·head, List·Memᴰ·tail, List·Memᴰ·cases-cons, List·Memᴰ·not-nil}
 use mathlib.Core.Option.{Option, none, some}
 use Prim.Native.Nat.{ℕ, _≤_}
 use native.Mathlib.Omega.{arith}
 use lib.Dec.{ltb, eqb}
+use lib.ListN.{length}
 use borrow.Author.Tests.{ltb-true, ltb-false, eqb-true}
 use Rattle.laws.proofs.Tests.{and-left, and-right}
-use Rattle.rules.specs.Allotment.{Bid, keep}
-use Rattle.rules.specs.Receiving.{Submission, Entry, tenZeros, newEntry, newBook, isAfter, isFrom, takes, hold}
+use Rattle.rules.specs.Allotment.{Bid, filled, keep}
+use Rattle.rules.specs.Opening.{any}
+use Rattle.rules.specs.Receiving.{Submission, cancels, Entry, tenZeros, newEntry, newBook, isAfter, isFrom, takes, hold}
 use Rattle.rules.specs.ArrivalOrder.{Rearranged, nothing, keep-first, laterOf, latest, bidsOfLatest, finalBids}
 use Rattle.rules.proofs.Kept.{mem-keep, keep-mem}
 use Rattle.rules.proofs.Rearranging.{rearranged-back, rearranged-mem}
+use Rattle.rules.proofs.Cancelling.{latest-bids}
 
 -- messages of one code and time have the same bids
 abbrev pub Agreeing : List Submission → Type 0
 Agreeing ms =
     (m n : Submission) → List·Memᴰ m ms → List·Memᴰ n ms → m .sound ≡ true → n .sound ≡ true → m .code ≡ n .code → m .time ≡ n .time
     → m .bids ≡ n .bids
+
+-- each message has ten bids
+abbrev pub TenBids : List Submission → Type 0
+TenBids ms = (m : Submission) → List·Memᴰ m ms → length (m .bids) ≡ 10
 
 -- messages held one after the other
 unfoldable pub holdAllIn : List Submission → List Entry → List Entry
@@ -135,8 +142,8 @@ hold-join m s (some n) fm fl = go (ltb (m .time) (n .time)) refl
     go true e = both ∙ rw e
     go false e = both ∙ rw e
 
-latest-is-from : (c : ℕ) (ms : List Submission) (n : Submission) → latest (keep (isFrom c) ms) ≡ some n → isFrom c n ≡ true
-latest-is-from c ms n e = mem-keep (isFrom c) ms (subst (IsLatest (keep (isFrom c) ms)) e (is-latest (keep (isFrom c) ms)) .0) .1
+latest-member : (c : ℕ) (ms : List Submission) (n : Submission) → latest (keep (isFrom c) ms) ≡ some n → List·Memᴰ n ms × (isFrom c n ≡ true)
+latest-member c ms n e = mem-keep (isFrom c) ms (subst (IsLatest (keep (isFrom c) ms)) e (is-latest (keep (isFrom c) ms)) .0)
 
 -- an entry after a list of messages: the later of what it held and the latest sound message of its code
 entry-after : (ms : List Submission) (s : Entry) → holdAll ms s ≡ join s (latest (keep (isFrom (s .code)) ms))
@@ -148,30 +155,32 @@ entry-after (m ∷ ms) s = go (isFrom (s .code) m) refl (entry-after ms (hold m 
         → holdAll ms (hold m s) ≡ join (hold m s) (latest (keep (isFrom ((hold m s) .code)) ms))
         → holdAll ms s ≡ join s (latest (keep (isFrom (s .code)) ms))
         → holdAll ms (hold m s) ≡ join s (latest (cond b (m ∷ keep (isFrom (s .code)) ms) (keep (isFrom (s .code)) ms)))
-    go true e ih _ = ih ∙ ap (λ c. join (hold m s) (latest (keep (isFrom c) ms))) (hold-code m s) ∙ hold-join m s (latest (keep (isFrom (s .code)) ms)) e (latest-is-from (s .code) ms)
+    go true e ih _ = ih ∙ ap (λ c. join (hold m s) (latest (keep (isFrom c) ms))) (hold-code m s) ∙ hold-join m s (latest (keep (isFrom (s .code)) ms)) e (λ n q. latest-member (s .code) ms n q .1)
     go false e _ ih = rw (hold-other m s e) ih
 
 -- an entry of a new book holds the time and bids of the latest sound message of its code
-pub entry-final : (c : ℕ) (ms : List Submission)
+pub entry-final : (c : ℕ) (ms : List Submission) → TenBids ms
     → holdAll ms (newEntry c) ≡ record { code = c; held = timeOf (latest (keep (isFrom c) ms)); bids = finalBids c ms }
 unfolding newEntry finalBids join hold takes isAfter timeOf bidsOfLatest
-entry-final c ms = entry-after ms (newEntry c) ∙ go (latest (keep (isFrom c) ms)) (latest-is-from c ms)
+entry-final c ms ten = entry-after ms (newEntry c) ∙ go (latest (keep (isFrom c) ms)) (latest-member c ms)
   where
-    go : (l : Option Submission) → ((n : Submission) → l ≡ some n → isFrom c n ≡ true) → join (newEntry c) l ≡ record { code = c; held = timeOf l; bids = bidsOfLatest l }
+    go : (l : Option Submission) → ((n : Submission) → l ≡ some n → List·Memᴰ n ms × (isFrom c n ≡ true)) → join (newEntry c) l ≡ record { code = c; held = timeOf l; bids = bidsOfLatest l }
     go none f = refl
-    go (some n) f = rw (f n refl)
+    go (some n) f =
+        let k = f n refl in
+        rw (k .1) (ap (λ (bs : List Bid). record { code = c; held = some (n .time); bids = bs }) (sym (latest-bids n (ten n (k .0)))))
 
 -- the whole book
 unfoldable pub finalEntry : List Submission → ℕ → Entry
 finalEntry ms c = record { code = c; held = timeOf (latest (keep (isFrom c) ms)); bids = finalBids c ms }
 
-pub book-final : (cs : List ℕ) (ms : List Submission) → holdAllIn ms (newBook cs) ≡ map (finalEntry ms) cs
+pub book-final : (cs : List ℕ) (ms : List Submission) → TenBids ms → holdAllIn ms (newBook cs) ≡ map (finalEntry ms) cs
 unfolding newBook finalEntry
-book-final cs ms = entry-by-entry ms (map newEntry cs) ∙ each cs
+book-final cs ms ten = entry-by-entry ms (map newEntry cs) ∙ each cs
   where
     each : (cs : List ℕ) → map (holdAll ms) (map newEntry cs) ≡ map (finalEntry ms) cs
     each [] = refl
-    each (c ∷ cs) = λ i. entry-final c ms i ∷ each cs i
+    each (c ∷ cs) = λ i. entry-final c ms ten i ∷ each cs i
 
 -- rearranged messages
 
@@ -197,11 +206,11 @@ module _ (c : ℕ) (ms ns : List Submission) (one : Agreeing ms) (p : Rearranged
       one m n fm.0 fn.0 (is-sound c m fm.1) (is-sound c n fn.1) (is-code c m fm.1 ∙ sym (is-code c n fn.1)) e
 
   same-latest : (l k : Option Submission) → IsLatest (keep (isFrom c) ms) l → IsLatest (keep (isFrom c) ns) k → (timeOf l ≡ timeOf k) × (bidsOfLatest l ≡ bidsOfLatest k)
-  unfolding timeOf bidsOfLatest
+  unfolding timeOf bidsOfLatest cancels
   same-latest none none hl hk = (refl, refl)
   same-latest none (some n) hl hk = absurd (hl n (back n (hk .0)))
   same-latest (some m) none hl hk = absurd (hk m (there m (hl .0)))
-  same-latest (some m) (some n) hl hk = (ap {B = Option ℕ} some e, agree m n (hl .0) (back n (hk .0)) e)
+  same-latest (some m) (some n) hl hk = (ap {B = Option ℕ} some e, ap (λ (bs : List Bid). cond (not (any filled bs)) tenZeros bs) (agree m n (hl .0) (back n (hk .0)) e))
     where
       e : m .time ≡ n .time
       e = omega (arith, hl .1 n (back n (hk .0)), hk .1 m (there m (hl .0)))
@@ -214,8 +223,8 @@ module _ (c : ℕ) (ms ns : List Submission) (one : Agreeing ms) (p : Rearranged
       λ i. record { code = c; held = e .0 i; bids = e .1 i }
 
 -- rearranged messages leave the same book
-pub book-rearranged : (cs : List ℕ) (ms ns : List Submission) → Agreeing ms → Rearranged ms ns → holdAllIn ms (newBook cs) ≡ holdAllIn ns (newBook cs)
-book-rearranged cs ms ns one p = book-final cs ms ∙ each cs ∙ sym (book-final cs ns)
+pub book-rearranged : (cs : List ℕ) (ms ns : List Submission) → TenBids ms → Agreeing ms → Rearranged ms ns → holdAllIn ms (newBook cs) ≡ holdAllIn ns (newBook cs)
+book-rearranged cs ms ns ten one p = book-final cs ms ten ∙ each cs ∙ sym (book-final cs ns (λ n k. ten n (rearranged-mem (rearranged-back p) k)))
   where
     each : (cs : List ℕ) → map (finalEntry ms) cs ≡ map (finalEntry ns) cs
     each [] = refl
@@ -227,14 +236,15 @@ rearranged-same : (xs : List Submission) → Rearranged xs xs
 rearranged-same [] = nothing
 rearranged-same (x ∷ xs) = keep-first (rearranged-same xs)
 
--- The final bids are those of any sound message of the counterparty that no other is laterOf than.
-pub final-any : (c : ℕ) (ms : List Submission) → Agreeing ms → (m : Submission) → List·Memᴰ m ms → isFrom c m ≡ true
+-- The final bids are those of any sound message of the counterparty that no other is later than.
+pub final-any : (c : ℕ) (ms : List Submission) → TenBids ms → Agreeing ms → (m : Submission) → List·Memᴰ m ms → isFrom c m ≡ true
     → ((n : Submission) → List·Memᴰ n ms → isFrom c n ≡ true → n .time ≤ m .time) → finalBids c ms ≡ m .bids
-unfolding finalBids bidsOfLatest
-final-any c ms one m k f last =
+unfolding finalBids
+final-any c ms ten one m k f last =
     same-latest c ms ms one (rearranged-same ms) (latest (keep (isFrom c) ms)) (some m) (is-latest (keep (isFrom c) ms))
     (keep-mem (isFrom c) ms k f, λ n h. last n (mem-keep (isFrom c) ms h .0) (mem-keep (isFrom c) ms h .1))
     .1
+    ∙ latest-bids m (ten m k)
 
 -- Without a sound message there are none.
 pub final-none : (c : ℕ) (ms : List Submission) → ((n : Submission) → List·Memᴰ n ms → isFrom c n ≡ true → ⊥) → finalBids c ms ≡ tenZeros

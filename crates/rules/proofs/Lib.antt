@@ -6,6 +6,9 @@ pub mod Sum
 pub mod Walk
 pub mod Bound
 pub mod Rearranging
+pub mod Opening
+pub mod Exceeding
+pub mod Cancelling
 pub mod Book
 pub mod ArrivalOrder
 pub mod Theorems

@@ -9,7 +9,7 @@ use lib.ListN.{length}
 use Rattle.calendar.specs.Calendar.{validDate, validTime, later}
 use Rattle.rules.specs.Allotment.{Bid, keep, awards, sum, totalIn}
 use Rattle.rules.specs.Opening.{Terms, openingRefused, termsOf, offerOf}
-use Rattle.rules.specs.Receiving.{Reception, Submission, submission, tenZeros, isFrom}
+use Rattle.rules.specs.Receiving.{Reception, Submission, submission, cancels, tenZeros, isFrom}
 use Rattle.rules.specs.Calls.{Tender, openTender, receive, close, allot, allotment}
 
 -- 'every list of receptions, refused ones included, .. each on the tender that the last one returned'
@@ -60,10 +60,10 @@ unfoldable pub latest : List Submission → Option Submission
 latest [] = none
 latest (s ∷ ss) = laterOf s (latest ss)
 
--- 'those of its sound message with the latest reference time, or none if there is none or that one cancels': the bids of ten zero places are none
+-- 'those of its sound message with the latest reference time, or none if there is none or that one cancels': ten zeros are none
 unfoldable pub bidsOfLatest : Option Submission → List Bid
 bidsOfLatest none = tenZeros
-bidsOfLatest (some s) = s .bids
+bidsOfLatest (some s) = cond (cancels s) tenZeros (s .bids)
 
 -- 'the final bids: for each counterparty, read from its own messages alone'
 unfoldable pub finalBids : ℕ → List Submission → List Bid

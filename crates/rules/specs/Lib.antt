@@ -5,5 +5,7 @@ pub mod Replies
 pub mod Calls
 pub mod ArrivalOrder
 pub mod Theorems
+pub mod Messages
 pub mod Marked
+pub mod OpeningRows
 pub mod Rows

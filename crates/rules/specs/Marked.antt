@@ -5,70 +5,15 @@ use mathlib.Core.Option.{Option, none, some}
 use Prim.Native.Nat.{ℕ}
 use lib.ListN.{length, replicate, getD, take}
 use Rattle.calendar.specs.Calendar.{validDate}
-use Rattle.layout.specs.Fields.{encoded}
-use Rattle.places.specs.declared.Rate.{Rate}
-use Rattle.places.specs.declared.Amount.{Amount}
-use Rattle.texts.specs.Texts.{sameText, ascii}
+use Rattle.texts.specs.Texts.{sameText}
 use Rattle.envelope.specs.declared.announcement.Side.{Side}
 use Rattle.envelope.specs.declared.announcement.Side.the-variants.{La, Lp}
-use Rattle.envelope.specs.Announcement.{layout6G0}
-use Rattle.envelope.specs.Application.{written}
-use Rattle.rules.specs.Allotment.{Bid, isIn, division, awards, marginalRate}
-use Rattle.rules.specs.Opening.{Terms, openingRefused, termsOf, offerOf}
-use Rattle.rules.specs.Receiving.{Reception, Error, errors}
+use Rattle.rules.specs.Allotment.{Bid, filled, isIn, keep, division, awards, marginalRate}
+use Rattle.rules.specs.Opening.{openingRefused, offerOf}
+use Rattle.rules.specs.Receiving.{Reception, Error, errors, submission, cancels}
 use Rattle.rules.specs.Calls.{Tender, Answer, confirmed, returned, refused, openTender, receive, bidsInBook, allotment}
 use Rattle.rules.specs.ArrivalOrder.{receiveAll}
-
--- 'Tender LP of 12032012, most bids 3, amount offered 100000, minimum and increment 10000, no maximum, minimum allocation 0, limit 00100000,
--- cut-off 110000, codes 90001 to 90003'
-unfoldable pub announcement : List ℕ
-announcement =
-    encoded layout6G0
-    (ascii "6G0"
-    ∷ ascii "01000"
-    ∷ ascii "90001"
-    ∷ ascii "00000000001"
-    ∷ ascii "12032012"
-    ∷ ascii "093000"
-    ∷ ascii "T/2012/0001"
-    ∷ ascii "NC/FD/LP/R/Y/VR/MR"
-    ∷ ascii "12032012/03/000000000100000/000000000010000/000000000010000/000000000000000/000000000000000/00100000"
-    ∷ ascii "14032012"
-    ∷ ascii "15032012"
-    ∷ ascii "110000"
-    ∷ [])
-
-abbrev pub admitted : List ℕ
-admitted = 90001 ∷ 90002 ∷ 90003 ∷ []
-
-unfoldable pub terms : Terms
-terms = termsOf announcement admitted
-
--- bids from the first place on, and zeros in the places after them
-abbrev pub Pairs : Type 0
-Pairs = List (ℕ × ℕ)
-
-abbrev pub firstRate : ℕ × ℕ → Rate
-firstRate p = record { 0 = p .0 }
-
-abbrev pub firstAmount : ℕ × ℕ → Amount
-firstAmount p = record { 0 = p .1 }
-
-unfoldable pub ten : Pairs → Pairs
-ten ps = take 10 (ps ++ replicate 10 (0, 0))
-
--- a 6G1 to this tender, from a code at a reference time
-unfoldable pub message : ℕ → ℕ → Pairs → List ℕ
-message code time ps =
-    written
-    (record { sender = code; recipient = 1000; cro = 1; date = 12032012; time = time; check = 0; rates = map firstRate (ten ps); amounts = map firstAmount (ten ps) })
-    (ascii "6G1")
-    (ascii "T/2012/0001")
-    (ascii "CONTACT NAME   ")
-
--- its reception on the execution date
-unfoldable pub reception : ℕ → List ℕ → Reception
-reception time m = record { message = m; date = 12032012; time = time; space = replicate 418 0 }
+use Rattle.rules.specs.Messages.{announcement, admitted, terms, Pairs, message, reception}
 
 -- the codes of the errors of a message
 abbrev pub code : Error → ℕ
@@ -101,9 +46,6 @@ answerCode (refused n) = n
 
 unfoldable pub answerAfter : List Reception → Reception → ℕ
 answerAfter rs r = answerCode (receive (tenderAfter rs) r .0)
-
-unfoldable pub lengthAfter : List Reception → Reception → ℕ
-lengthAfter rs r = length (receive (tenderAfter rs) r .2)
 
 -- amounts and rates in the book, place by place
 abbrev pub rate : Bid → ℕ
@@ -174,7 +116,10 @@ table =
     -- M9 three of 10000 sharing 10000 get 3334, 3333, 3333
     ∷ row 9 (shared Lp 100000 10000 ((120000, 10000) ∷ (120000, 10000) ∷ (120000, 10000) ∷ [])) (3334 ∷ 3333 ∷ 3333 ∷ [])
     -- M10 ten zero places after an application leave no bids
-    ∷ row 10 (map amount (bidsInBook (tenderAfter (reception 103000 (message 90001 102900 ((120000, 10000) ∷ [])) ∷ reception 103100 (message 90001 103000 []) ∷ []) .book))) (replicate 30 0)
+    ∷ row 10 (length (keep filled (bidsInBook (tenderAfter (reception 103000 (message 90001 102900 ((120000, 10000) ∷ [])) ∷ []) .book))) ∷ []) (1 ∷ [])
+    ∷ row 10 (length (keep filled (bidsInBook (tenderAfter (reception 103000 (message 90001 102900 ((120000, 10000) ∷ [])) ∷ reception 103100 (message 90001 103000 []) ∷ []) .book))) ∷ []) (0 ∷ [])
+    ∷ record { mark = 10; holds = cancels (submission terms (reception 103100 (message 90001 103000 []))) }
+    ∷ record { mark = 10; holds = not (cancels (submission terms (reception 103100 (message 90001 103000 ((0, 0) ∷ (0, 1) ∷ []))))) }
     -- a cancellation's time is held: an older application is too late, and so is one of the same time
     ∷ row 0 (answerAfter (reception 103000 (message 90001 102900 []) ∷ []) (reception 103100 (message 90001 102800 ((120000, 10000) ∷ []))) ∷ []) (302 ∷ [])
     ∷ row 0 (answerAfter (reception 103000 (message 90001 102900 []) ∷ []) (reception 103100 (message 90001 102900 ((120000, 10000) ∷ []))) ∷ []) (302 ∷ [])

@@ -124,6 +124,10 @@ submission t r =
       bids = messageBids (r .message);
     }
 
+-- 'Ten zero places cancel': no place of the message is filled
+unfoldable pub cancels : Submission → Bool
+cancels s = not (any filled (s .bids))
+
 -- 'For each admitted code the book holds the reference time last accepted, or none, and ten bids.'
 pub record Entry : Type 0 where
   pub code : ℕ
@@ -153,7 +157,8 @@ isFrom c s = s .sound && eqb (s .code) c
 unfoldable pub takes : Submission → Entry → Bool
 takes s e = isFrom (e .code) s && isAfter (s .time) (e .held)
 
--- 'otherwise its time and bids replace what is held'; 'Ten zero places cancel: the bids become zeros and the time is kept' is one case of it
+-- 'otherwise its time and bids replace what is held'; of a message that cancels 'the bids become zeros and the time is kept': theorem
+-- `cancelling-holds-zeros`
 unfoldable pub hold : Submission → Entry → Entry
 hold s e = cond (takes s e) (record { code = e .code; held = some (s .time); bids = s .bids }) e
 

@@ -1,91 +1,64 @@
 -- A row for each refusal, error and reply of document 01, as one table; the tender is that of the marked cases. Assumes nothing.
+use mathlib.Core.Bool.{cond}
 use mathlib.Core.List.{List, [], _∷_, _++_, map}
 use mathlib.Core.Option.{none}
-use Prim.Native.Nat.{ℕ, _+_}
-use lib.Dec.{T}
-use lib.ListN.{replicate, set, take}
+use Prim.Native.Nat.{ℕ}
+use lib.Dec.{T, eqb}
+use lib.ListN.{length, drop, replicate, take}
 use Rattle.texts.specs.Texts.{ascii}
-use Rattle.rules.specs.Opening.{openingRefused, termsOf}
-use Rattle.rules.specs.Receiving.{errors, Entry}
-use Rattle.rules.specs.Calls.{Closed, Announced, Revoked, Tender, inState, Answer, confirmed, returned, refused, openTender, receivingRefused, receive, closingRefused, close, allottingRefused, allot, revokingRefused, revoke}
-use Rattle.rules.specs.Marked.{announcement, admitted, terms, message, reception, code, errorCodes, Row, row, allHold, listOf}
+use Rattle.envelope.specs.declared.application.Field.{Field}
+use Rattle.envelope.specs.declared.application.Field.the-variants.{MessageType, Sender, Recipient, Cro, Date, Time, Check, Identifier, Bids}
+use Rattle.envelope.specs.declared.application.Application.{Application}
+use Rattle.envelope.specs.Application.{position, readingRefused, writingRefused, write}
+use Rattle.rules.specs.Receiving.{Reception, Submission, submission, errors}
+use Rattle.rules.specs.Replies.{errorTexts}
+use Rattle.rules.specs.Calls.{Closed, Announced, Revoked, Tender, inState, Answer, confirmed, returned, refused, openTender, receivingRefused, receive, closingRefused, close, allottingRefused, places640, allot, revokingRefused, revoke}
+use Rattle.rules.specs.Messages.{_is_, Most, Maximum, announcementWith, announcement, admitted, terms, Pairs, numbers, message, messageWith, zeroPlaces, reception}
+use Rattle.rules.specs.Marked.{code, rate, amount, Row, row, allHold, listOf, tenderAfter}
+use Rattle.rules.specs.OpeningRows.{openingRows, openingOrderRows, literal6G0, termRows}
 
--- the announcement and a message with another byte at an index
-abbrev pub announced : ℕ → ℕ → List ℕ
-announced at b = set announcement at b
-
+-- an application to the tender of the marked cases, and the same with some texts altered
 unfoldable pub application : List ℕ
 application = message 90001 102900 ((120000, 10000) ∷ [])
 
-abbrev pub altered : ℕ → ℕ → List ℕ
-altered at b = errorCodes (reception 103000 (set application at b))
+abbrev pub applicationWith : List (Field × List ℕ) → List ℕ
+applicationWith fields = messageWith fields 90001 102900 ((120000, 10000) ∷ [])
 
--- the refusal of opening
-abbrev pub opening : List ℕ → List ℕ → List ℕ
-opening m codes = listOf (openingRefused m codes)
+-- ten places, the first of them with a blank for its slash
+abbrev pub malformedPlace : Field × List ℕ
+malformedPlace = (Bids, ascii "00120000 000000000010000" ++ zeroPlaces 9)
 
--- the tender in each state
 unfoldable pub opened : Tender
 opened = openTender announcement admitted .1
 
--- a number of codes that rise
-unfoldable pub rising65 : List ℕ
-rising65 =
-    0 ∷ 1 ∷ 2 ∷ 3 ∷ 4 ∷ 5 ∷ 6 ∷ 7 ∷ 8 ∷ 9 ∷ 10 ∷ 11 ∷ 12 ∷ 13 ∷ 14 ∷ 15 ∷ 16 ∷ 17 ∷ 18 ∷ 19 ∷ 20 ∷ 21 ∷ 22 ∷ 23 ∷ 24 ∷ 25 ∷ 26 ∷ 27 ∷ 28 ∷ 29 ∷ 30 ∷ 31 ∷ 32 ∷ 33 ∷ 34 ∷ 35 ∷ 36 ∷ 37 ∷ 38 ∷ 39 ∷ 40 ∷ 41 ∷ 42 ∷ 43 ∷ 44 ∷ 45 ∷ 46 ∷ 47 ∷ 48 ∷ 49 ∷ 50 ∷ 51 ∷ 52 ∷ 53 ∷ 54 ∷ 55 ∷ 56 ∷ 57 ∷ 58 ∷ 59 ∷ 60 ∷ 61 ∷ 62 ∷ 63 ∷ 64 ∷ []
+-- a tender that takes ten bids of a message, and one that takes one bid and no more than 20000 in all
+unfoldable pub wide : Tender
+wide = openTender (announcementWith [] (Most is "10" ∷ [])) admitted .1
 
--- the refusal of a reception, with the space and the clock given
+unfoldable pub narrow : Tender
+narrow = openTender (announcementWith [] (Most is "01" ∷ Maximum is "000000000020000" ∷ [])) admitted .1
+
+-- the tender closed, with one bid of so many eurocents in its book
+unfoldable pub closedWith : ℕ → Tender
+closedWith n =
+    record {
+      terms = terms;
+      state = Closed;
+      book = record { code = 90001; held = none; bids = record { rate = 120000; amount = n } ∷ [] } ∷ [];
+    }
+
+-- the refusal of a reception, with the clock and the space given
 unfoldable pub receiving : Tender → List ℕ → ℕ → ℕ → ℕ → List ℕ
 receiving t m date time space = listOf (receivingRefused t (record { message = m; date = date; time = time; space = replicate space 0 }))
 
--- an answer as numbers: what it is, the codes of its errors, its length
-unfoldable pub answer : Answer → List ℕ
-answer (confirmed n) = 0 ∷ n ∷ []
-answer (returned es n) = 1 ∷ n ∷ map code es
-answer (refused n) = 2 ∷ n ∷ []
+abbrev pub closing : Tender → ℕ → ℕ → List ℕ
+closing t date time = listOf (closingRefused t date time)
 
--- a book that exceeds condition 16's bound
-abbrev pub large : Entry
-large = record { code = 90001; held = none; bids = record { rate = 120000; amount = 1000000000000000000 } ∷ [] }
+abbrev pub allotting : Tender → List ℕ
+allotting t = listOf (allottingRefused t)
 
--- six errors: type, recipient, CRO, check digit, identifier and a place
-unfoldable pub sixErrors : List ℕ
-sixErrors = set (set (set (set (set (set application 5 50) 17 49) 25 58) 59 47) 77 50) 89 32
-
-unfoldable pub openingRows : List Row
-openingRows =
-    row 1 (opening (announced 0 2) admitted) (1 ∷ [])
-    ∷ row 1 (opening (announcement ++ (0 ∷ [])) admitted) (1 ∷ [])
-    ∷ row 2 (opening (announced 5 49) admitted) (2 ∷ [])
-    ∷ row 2 (opening (announced 13 49) admitted) (2 ∷ [])
-    ∷ row 3 (opening (announced 17 32) admitted) (3 ∷ [])
-    ∷ row 3 (opening (announced 25 32) admitted) (3 ∷ [])
-    ∷ row 3 (opening (announced 39 52) admitted) (3 ∷ [])
-    ∷ row 3 (opening (announced 50 51) admitted) (3 ∷ [])
-    ∷ row 3 (opening (announced 59 116) admitted) (3 ∷ [])
-    ∷ row 3 (opening (announced 94 52) admitted) (3 ∷ [])
-    ∷ row 3 (opening (announced 102 32) admitted) (3 ∷ [])
-    ∷ row 3 (opening (announced 197 52) admitted) (3 ∷ [])
-    ∷ row 3 (opening (announced 208 52) admitted) (3 ∷ [])
-    ∷ row 3 (opening (announced 219 51) admitted) (3 ∷ [])
-    ∷ row 4 (opening (announced 84 88) admitted) (4 ∷ [])
-    ∷ row 5 (opening (announced 104 48) admitted) (5 ∷ [])
-    ∷ row 5 (opening (announced 103 49) admitted) (5 ∷ [])
-    ∷ row 5 (opening (announced 115 48) admitted) (5 ∷ [])
-    ∷ row 5 (opening (announced 132 48) admitted) (5 ∷ [])
-    ∷ row 5 (opening (announced 148 48) admitted) (5 ∷ [])
-    ∷ row 5 (opening (announced 168 49) admitted) (5 ∷ [])
-    ∷ row 5 (opening (announced 164 49) admitted) []
-    ∷ row 6 (opening (announced 40 51) admitted) (6 ∷ [])
-    ∷ row 6 (opening (announced 198 49) admitted) (6 ∷ [])
-    ∷ row 6 (opening (announced 209 52) admitted) (6 ∷ [])
-    ∷ row 7 (opening announcement []) (7 ∷ [])
-    ∷ row 7 (opening announcement rising65) (7 ∷ [])
-    ∷ row 7 (opening announcement (take 64 rising65)) []
-    ∷ row 7 (opening announcement (90001 ∷ 90001 ∷ [])) (7 ∷ [])
-    ∷ row 7 (opening announcement (90001 ∷ 100000 ∷ [])) (7 ∷ [])
-    -- the lowest number wins
-    ∷ row 2 (opening (announced 5 49) []) (2 ∷ [])
-    ∷ []
+abbrev pub revoking : Tender → List ℕ
+revoking t = listOf (revokingRefused t)
 
 unfoldable pub stateRows : List Row
 stateRows =
@@ -96,49 +69,144 @@ stateRows =
     ∷ row 10 (receiving opened [] 12032012 240000 0) (10 ∷ [])
     ∷ row 11 (receiving opened [] 12032012 103000 417) (11 ∷ [])
     ∷ row 12 (receiving opened [] 12032012 103000 418) (12 ∷ [])
+    ∷ row 12 (receiving opened announcement 12032012 103000 418) (12 ∷ [])
     ∷ row 12 (receiving opened application 12032012 103000 418) []
-    ∷ row 8 (listOf (closingRefused (inState Revoked opened) 0 0)) (8 ∷ [])
-    ∷ row 9 (listOf (closingRefused (inState Announced opened) 0 0)) (9 ∷ [])
-    ∷ row 10 (listOf (closingRefused opened 12032012 240000)) (10 ∷ [])
-    ∷ row 13 (listOf (closingRefused opened 12032012 110000)) (13 ∷ [])
-    ∷ row 13 (listOf (closingRefused opened 12032012 110001)) []
-    ∷ row 13 (listOf (closingRefused opened 13032012 0)) []
-    ∷ row 8 (listOf (allottingRefused (inState Revoked opened))) (8 ∷ [])
-    ∷ row 14 (listOf (allottingRefused opened)) (14 ∷ [])
-    ∷ row 15 (listOf (allottingRefused (inState Announced opened))) (15 ∷ [])
-    ∷ row 16 (listOf (allottingRefused (record { terms = terms; state = Closed; book = large ∷ [] }))) (16 ∷ [])
-    ∷ row 0 (listOf (allottingRefused (close opened 12032012 110001 .1))) []
-    ∷ row 15 (listOf (allottingRefused (allot (close opened 12032012 110001 .1) .1))) (15 ∷ [])
-    ∷ row 8 (listOf (revokingRefused (revoke opened .1))) (8 ∷ [])
-    ∷ row 15 (listOf (revokingRefused (inState Announced opened))) (15 ∷ [])
-    ∷ row 0 (listOf (revokingRefused (inState Closed opened))) []
-    ∷ row 8 (listOf (closingRefused (openTender [] admitted .1) 12032012 110001)) (8 ∷ [])
+    ∷ row 8 (closing (inState Revoked opened) 0 0) (8 ∷ [])
+    ∷ row 9 (closing (inState Closed opened) 0 0) (9 ∷ [])
+    ∷ row 9 (closing (inState Announced opened) 0 0) (9 ∷ [])
+    ∷ row 10 (closing opened 12032012 240000) (10 ∷ [])
+    -- a clock that is invalid and before the cut-off
+    ∷ row 10 (closing opened 12032012 106000) (10 ∷ [])
+    ∷ row 10 (closing opened 30022012 103000) (10 ∷ [])
+    ∷ row 13 (closing opened 12032012 110000) (13 ∷ [])
+    ∷ row 13 (closing opened 11032012 235959) (13 ∷ [])
+    ∷ row 13 (closing opened 12032012 110001) []
+    ∷ row 13 (closing opened 13032012 0) []
+    -- states and condition 16 at once
+    ∷ row 8 (allotting (inState Revoked (closedWith 1000000000000000000))) (8 ∷ [])
+    ∷ row 14 (allotting opened) (14 ∷ [])
+    ∷ row 15 (allotting (inState Announced (closedWith 1000000000000000000))) (15 ∷ [])
+    ∷ row 16 (allotting (closedWith 1000000000000000000)) (16 ∷ [])
+    ∷ row 16 (allotting (closedWith 999999999999999999)) []
+    ∷ row 0 (allotting (close opened 12032012 110001 .1)) []
+    ∷ row 15 (allotting (allot (close opened 12032012 110001 .1) .1)) (15 ∷ [])
+    ∷ row 8 (revoking (revoke opened .1)) (8 ∷ [])
+    ∷ row 15 (revoking (inState Announced opened)) (15 ∷ [])
+    -- a refused allotment gives 640 zeros; an accepted one looks at 640 places
+    ∷ row 14 (allot opened .2 .awards) (replicate 640 0)
+    ∷ row 14 (listOf (allot opened .2 .marginal)) []
+    ∷ row 640 (length (places640 (record { rate = 120000; amount = 10000 } ∷ [])) ∷ []) (640 ∷ [])
+    ∷ row 0 (revoking opened) []
+    ∷ row 0 (revoking (inState Closed opened)) []
+    -- a refused opening gives a tender on which every call is refused
+    ∷ row 8 (closing (openTender [] admitted .1) 12032012 110001) (8 ∷ [])
     ∷ []
 
+-- an answer as numbers: what it is, its length, the codes of its errors
+unfoldable pub answer : Answer → List ℕ
+answer (confirmed n) = 0 ∷ n ∷ []
+answer (returned es n) = 1 ∷ n ∷ map code es
+answer (refused n) = 2 ∷ n ∷ []
+
+abbrev pub bytesInReply : Answer → ℕ
+bytesInReply (confirmed n) = n
+bytesInReply (returned es n) = n
+bytesInReply (refused n) = 0
+
+-- the text of the second 098 in the reply to a message: 339 bytes of the message, 27 of the first 098 and 3 of its own head stand before it;
+-- a confirmation has none
+unfoldable pub second098 : ℕ → Tender → List ℕ → List ℕ
+second098 time t m =
+    let a : Answer × Tender × List ℕ = receive t (reception time m) in
+    drop 369 (take (bytesInReply (a .0)) (a .2))
+
+abbrev pub second098With : List (Field × List ℕ) → List ℕ
+second098With fields = second098 103000 opened (applicationWith fields)
+
+abbrev pub second098OfBids : Tender → Pairs → List ℕ
+second098OfBids t ps = second098 103000 t (message 90001 102900 ps)
+
+-- the text of every error code
 unfoldable pub errorRows : List Row
 errorRows =
-    row 900 (altered 5 50) (900 ∷ [])
-    ∷ row 309 (altered 9 32) (309 ∷ [])
-    ∷ row 300 (altered 13 52) (300 ∷ [])
-    ∷ row 599 (altered 17 49) (599 ∷ [])
-    ∷ row 521 (altered 25 58) (521 ∷ [])
-    ∷ row 502 (altered 39 52) (502 ∷ [])
-    ∷ row 522 (altered 40 51) (522 ∷ [])
-    ∷ row 503 (altered 50 51) (503 ∷ [])
-    ∷ row 908 (altered 59 47) (908 ∷ [])
-    ∷ row 303 (altered 77 50) (303 ∷ [])
-    ∷ row 901 (altered 89 32) (901 ∷ [])
-    ∷ row 902 (errorCodes (reception 103000 (message 90001 102900 ((0, 0) ∷ (120000, 10000) ∷ [])))) (902 ∷ [])
-    ∷ row 905 (errorCodes (reception 103000 (message 90001 102900 ((120000, 0) ∷ [])))) (905 ∷ [])
-    ∷ row 905 (errorCodes (reception 103000 (message 90001 102900 ((0, 9999) ∷ (120500, 25000) ∷ [])))) (904 ∷ 905 ∷ 906 ∷ [])
-    ∷ row 907 (map code (errors (termsOf (announced 164 50) admitted) (reception 103000 (message 90001 102900 ((120000, 10000) ∷ (130000, 20000) ∷ []))))) (907 ∷ [])
-    ∷ row 907 (map code (errors (termsOf (announced 164 50) admitted) (reception 103000 (message 90001 102900 ((120000, 10000) ∷ (130000, 10000) ∷ []))))) []
-    -- an earlier date is in time, a later one is not
-    ∷ row 301 (map code (errors terms (record { message = application; date = 11032012; time = 235959; space = [] }))) []
-    ∷ row 301 (map code (errors terms (record { message = application; date = 13032012; time = 0; space = [] }))) (301 ∷ [])
-    -- the order of the list
-    ∷ row 0 (map code (errors terms (reception 110001 (set (set (set sixErrors 9 32) 39 52) 50 51)))) (900 ∷ 309 ∷ 599 ∷ 521 ∷ 502 ∷ 503 ∷ 908 ∷ 303 ∷ 901 ∷ 301 ∷ [])
+    row 900 (second098With (MessageType is "6G2" ∷ [])) (ascii "001 - 900")
+    ∷ row 309 (second098With (Sender is "9 001" ∷ [])) (ascii "040 - 309")
+    ∷ row 300 (second098With (Sender is "90004" ∷ [])) (ascii "040 - 300")
+    ∷ row 300 (second098With (Sender is "89999" ∷ [])) (ascii "040 - 300")
+    ∷ row 599 (second098With (Recipient is "11000" ∷ [])) (ascii "050 - 599")
+    ∷ row 521 (second098With (Cro is "0000000000:" ∷ [])) (ascii "020 - 521")
+    ∷ row 502 (second098With (Date is "42032012" ∷ [])) (ascii "D31 - 502")
+    ∷ row 502 (second098With (Date is "12 32012" ∷ [])) (ascii "D31 - 502")
+    ∷ row 522 (second098With (Date is "13032012" ∷ [])) (ascii "D31 - 522")
+    ∷ row 522 (second098With (Date is "11032012" ∷ [])) (ascii "D31 - 522")
+    ∷ row 503 (second098With (Time is "302900" ∷ [])) (ascii "601 - 503")
+    ∷ row 908 (second098With (Check is "/0000" ∷ [])) (ascii "010 - 908")
+    ∷ row 303 (second098With (Identifier is "T/2012/0002" ∷ [])) (ascii "6G0 - 303")
+    ∷ row 901 (second098With (malformedPlace ∷ [])) (ascii "6G6 - 901")
+    ∷ row 901 (second098With ((Bids, zeroPlaces 9 ++ ascii "00000000/00000000000000 ") ∷ [])) (ascii "6G6 - 901")
+    ∷ row 902 (second098OfBids opened ((0, 0) ∷ (120000, 10000) ∷ [])) (ascii "6G6 - 902")
+    ∷ row 903 (second098OfBids narrow ((120000, 10000) ∷ (130000, 10000) ∷ [])) (ascii "6G6 - 903")
+    ∷ row 903 (second098OfBids narrow ((120000, 10000) ∷ [])) []
+    ∷ row 903 (second098OfBids wide (replicate 10 (120000, 10000))) []
+    ∷ row 904 (second098OfBids opened ((120500, 10000) ∷ [])) (ascii "6G6 - 904")
+    ∷ row 905 (second098OfBids opened ((120000, 9999) ∷ [])) (ascii "6G6 - 905")
+    ∷ row 905 (second098OfBids opened ((120000, 0) ∷ [])) (ascii "6G6 - 905")
+    ∷ row 906 (second098OfBids opened ((120000, 25000) ∷ [])) (ascii "6G6 - 906")
+    ∷ row 906 (second098OfBids opened ((1000, 25000) ∷ [])) (ascii "6G6 - 906")
+    ∷ row 907 (second098OfBids narrow ((120000, 30000) ∷ [])) (ascii "6G6 - 907")
+    ∷ row 907 (second098OfBids narrow ((120000, 20000) ∷ [])) []
+    ∷ row 301 (second098 110001 opened application) (ascii "6G5 - 301")
+    ∷ row 302 (second098 103100 (tenderAfter (reception 103000 application ∷ [])) application) (ascii "601 - 302")
+    -- 905 in one place, 904 and 906 in another
+    ∷ row 0 (second098OfBids opened ((0, 9999) ∷ (120500, 25000) ∷ [])) (ascii "6G6 - 904/6G6 - 905/6G6 - 906")
+    ∷ row 0 (second098OfBids narrow ((0, 0) ∷ (120000, 10000) ∷ (120000, 20000) ∷ [])) (ascii "6G6 - 902/6G6 - 903/6G6 - 907")
     ∷ []
+
+-- 'collected in this order': all errors of a reception, more than a reply shows
+unfoldable pub collected : Tender → Reception → List ℕ
+collected t r = errorTexts (errors (t .terms) r)
+
+-- a text in each field, and a place, that is malformed or wrong
+unfoldable pub malformedFields : List ℕ
+malformedFields =
+    applicationWith
+    (MessageType is "6G2"
+    ∷ Sender is "9 001"
+    ∷ Recipient is "11000"
+    ∷ Cro is "0000000000:"
+    ∷ Date is "42032012"
+    ∷ Time is "302900"
+    ∷ Check is "/0000"
+    ∷ Identifier is "T/2012/0002"
+    ∷ malformedPlace
+    ∷ [])
+
+-- a sender and a date that are well formed and others, and bids with every error
+unfoldable pub otherFields : List ℕ
+otherFields = messageWith (MessageType is "6G2" ∷ Sender is "90004" ∷ Date is "13032012" ∷ Time is "302900" ∷ []) 90001 102900 ((0, 0) ∷ (120500, 9999) ∷ (120000, 25000) ∷ [])
+
+unfoldable pub errorOrderRows : List Row
+errorOrderRows =
+    row 0 (collected opened (reception 110001 malformedFields)) (ascii "001 - 900/040 - 309/050 - 599/020 - 521/D31 - 502/601 - 503/010 - 908/6G0 - 303/6G6 - 901/6G5 - 301")
+    ∷ row 0 (collected narrow (reception 110001 otherFields)) (ascii "001 - 900/040 - 300/D31 - 522/601 - 503/6G6 - 902/6G6 - 903/6G6 - 904/6G6 - 905/6G6 - 906/6G6 - 907/6G5 - 301")
+    -- received on an earlier date is in time, on a later one not
+    ∷ row 301 (collected opened (record { message = application; date = 11032012; time = 235959; space = [] })) []
+    ∷ row 301 (collected opened (record { message = application; date = 13032012; time = 0; space = [] })) (ascii "6G5 - 301")
+    ∷ []
+
+-- six errors, or the first five of them: type, recipient, CRO, check digit, identifier and a place
+abbrev pub fiveTexts : List (Field × List ℕ)
+fiveTexts = MessageType is "6G2" ∷ Recipient is "11000" ∷ Cro is "0000000000:" ∷ Check is "/0000" ∷ Identifier is "T/2012/0002" ∷ []
+
+unfoldable pub fiveErrors : List ℕ
+fiveErrors = applicationWith fiveTexts
+
+unfoldable pub sixErrors : List ℕ
+sixErrors = applicationWith (malformedPlace ∷ fiveTexts)
+
+-- the first 098 and the head of the second
+unfoldable pub returnedWith : ℕ → List ℕ
+returnedWith n = (0x98 ∷ 0 ∷ 24 ∷ []) ++ ascii "*** MESSAGGIO ERRATO ***" ++ (0x98 ∷ 0 ∷ n ∷ [])
 
 unfoldable pub replyRows : List Row
 replyRows =
@@ -148,20 +216,100 @@ replyRows =
     ((1 ∷ 0 ∷ 3 ∷ []) ++ ascii "6G2" ++ (4 ∷ 0 ∷ 5 ∷ []) ++ ascii "01000" ++ (5 ∷ 0 ∷ 5 ∷ []) ++ ascii "90001" ++ (0x22 ∷ 0 ∷ 11 ∷ []) ++ ascii "00000000001"
     ++ (0x60 ∷ 0 ∷ 6 ∷ []) ++ ascii "103000" ++ (0x70 ∷ 0 ∷ 11 ∷ []) ++ ascii "T/2012/0001" ++ replicate 359 0)
     -- one error: 339 and 27 and 12 bytes
-    ∷ row 98 (answer (receive opened (reception 103000 (set application 5 50)) .0)) (1 ∷ 378 ∷ 900 ∷ [])
-    ∷ row 98 (receive opened (reception 103000 (set application 5 50)) .2)
-    (set application 5 50 ++ (0x98 ∷ 0 ∷ 24 ∷ []) ++ ascii "*** MESSAGGIO ERRATO ***" ++ (0x98 ∷ 0 ∷ 9 ∷ []) ++ ascii "001 - 900" ++ replicate 40 0)
+    ∷ row 98 (answer (receive opened (reception 103000 (applicationWith (MessageType is "6G2" ∷ []))) .0)) (1 ∷ 378 ∷ 900 ∷ [])
+    ∷ row 98 (receive opened (reception 103000 (applicationWith (MessageType is "6G2" ∷ []))) .2)
+    (applicationWith (MessageType is "6G2" ∷ []) ++ returnedWith 9 ++ ascii "001 - 900" ++ replicate 40 0)
     -- five errors: all five; six: the fifth is 999 - 999
-    ∷ row 98 (receive opened (reception 103000 (set sixErrors 89 47)) .2)
-    (set sixErrors 89 47 ++ (0x98 ∷ 0 ∷ 24 ∷ []) ++ ascii "*** MESSAGGIO ERRATO ***" ++ (0x98 ∷ 0 ∷ 49 ∷ []) ++ ascii "001 - 900/050 - 599/020 - 521/010 - 908/6G0 - 303")
+    ∷ row 98 (receive opened (reception 103000 fiveErrors) .2) (fiveErrors ++ returnedWith 49 ++ ascii "001 - 900/050 - 599/020 - 521/010 - 908/6G0 - 303")
     ∷ row 999 (answer (receive opened (reception 103000 sixErrors) .0)) (1 ∷ 418 ∷ 900 ∷ 599 ∷ 521 ∷ 908 ∷ 303 ∷ 901 ∷ [])
-    ∷ row 999 (receive opened (reception 103000 sixErrors) .2)
-    (sixErrors ++ (0x98 ∷ 0 ∷ 24 ∷ []) ++ ascii "*** MESSAGGIO ERRATO ***" ++ (0x98 ∷ 0 ∷ 49 ∷ []) ++ ascii "001 - 900/050 - 599/020 - 521/010 - 908/999 - 999")
+    ∷ row 999 (receive opened (reception 103000 sixErrors) .2) (sixErrors ++ returnedWith 49 ++ ascii "001 - 900/050 - 599/020 - 521/010 - 908/999 - 999")
     -- a refused reception leaves the space
     ∷ row 12 (answer (receive opened (reception 103000 []) .0)) (2 ∷ 12 ∷ [])
     ∷ row 12 (receive opened (reception 103000 []) .2) (replicate 418 0)
     ∷ []
 
+-- an application byte by byte, each tag and length a number
+unfoldable pub literal6G1 : List ℕ
+literal6G1 =
+    (0x01 ∷ 0 ∷ 3 ∷ []) ++ ascii "6G1"
+    ++ (0x04 ∷ 0 ∷ 5 ∷ []) ++ ascii "90001"
+    ++ (0x05 ∷ 0 ∷ 5 ∷ []) ++ ascii "01000"
+    ++ (0x02 ∷ 0 ∷ 11 ∷ []) ++ ascii "00000000001"
+    ++ (0x31 ∷ 0 ∷ 8 ∷ []) ++ ascii "12032012"
+    ++ (0x60 ∷ 0 ∷ 6 ∷ []) ++ ascii "102900"
+    ++ (0x10 ∷ 0 ∷ 5 ∷ []) ++ ascii "00000"
+    ++ (0x70 ∷ 0 ∷ 11 ∷ []) ++ ascii "T/2012/0001"
+    ++ (0x76 ∷ 0 ∷ 240 ∷ []) ++ ascii "00120000/000000000010000" ++ zeroPlaces 9
+    ++ (0x7f ∷ 0 ∷ 15 ∷ []) ++ ascii "CONTACT NAME   "
+
+-- what is held of a message: its sender, reference time, rates and amounts
+unfoldable pub submittedNumbers : Submission → List ℕ
+submittedNumbers s = s .code ∷ s .time ∷ map rate (s .bids) ++ map amount (s .bids)
+
+-- a bid to the tender whose announcement stands byte by byte: its minimum is 20000, its increment 3000, its maximum 80000
+abbrev pub literal098 : Pairs → List ℕ
+literal098 ps = second098 103000 (openTender literal6G0 admitted .1) (messageWith (Identifier is "T/2012/0042" ∷ []) 90001 102900 ps)
+
+unfoldable pub literalRows : List Row
+literalRows =
+    row 339 literal6G1 application
+    ∷ row 339 (listOf (readingRefused literal6G1)) []
+    ∷ row 339 (answer (receive opened (reception 103000 literal6G1) .0)) (0 ∷ 59 ∷ [])
+    ∷ row 339 (submittedNumbers (submission terms (reception 103000 literal6G1))) (90001 ∷ 102900 ∷ 120000 ∷ replicate 9 0 ++ (10000 ∷ replicate 9 0))
+    ∷ row 225 (literal098 ((120000, 26000) ∷ (121000, 20000) ∷ [])) []
+    ∷ row 225 (literal098 ((120000, 17000) ∷ [])) (ascii "6G6 - 905")
+    ∷ row 225 (literal098 ((120000, 24000) ∷ [])) (ascii "6G6 - 906")
+    ∷ row 225 (literal098 ((120000, 41000) ∷ (121000, 41000) ∷ [])) (ascii "6G6 - 907")
+    ∷ []
+
+-- the numbers of the application, one of them altered
+unfoldable pub numbersWith : Field → ℕ → Application
+numbersWith f n =
+    let a : Application = numbers 90001 102900 ((120000, 10000) ∷ []) in
+    let given : Field → ℕ → ℕ = λ g m. cond (eqb (position f) (position g)) n m in
+    record {
+      sender = given Sender (a .sender);
+      recipient = given Recipient (a .recipient);
+      cro = given Cro (a .cro);
+      date = given Date (a .date);
+      time = given Time (a .time);
+      check = given Check (a .check);
+      rates = a .rates;
+      amounts = a .amounts;
+    }
+
+-- the refusal of writing, in a space of so many bytes
+abbrev pub writing : Application → ℕ → List ℕ
+writing a space = listOf (writingRefused a (ascii "6G1") (ascii "T/2012/0001") (ascii "CONTACT NAME   ") (replicate space 7))
+
+abbrev pub writingTexts : List ℕ → List ℕ → List ℕ → List ℕ
+writingTexts kind identifier name = listOf (writingRefused (numbersWith Sender 90001) kind identifier name (replicate 339 7))
+
+abbrev pub afterWriting : Application → ℕ → List ℕ
+afterWriting a space = write a (ascii "6G1") (ascii "T/2012/0001") (ascii "CONTACT NAME   ") (replicate space 7) .1
+
+unfoldable pub writingRows : List Row
+writingRows =
+    row 12 (listOf (readingRefused announcement)) (12 ∷ [])
+    ∷ row 17 (writing (numbersWith Sender 100000) 339) (17 ∷ [])
+    ∷ row 17 (writing (numbersWith Sender 99999) 339) []
+    ∷ row 17 (writing (numbersWith Recipient 100000) 339) (17 ∷ [])
+    ∷ row 17 (writing (numbersWith Cro 100000000000) 339) (17 ∷ [])
+    ∷ row 17 (writing (numbersWith Date 100000000) 339) (17 ∷ [])
+    ∷ row 17 (writing (numbersWith Time 1000000) 339) (17 ∷ [])
+    ∷ row 17 (writing (numbersWith Check 100000) 339) (17 ∷ [])
+    ∷ row 17 (writing (numbers 90001 102900 ((100000000, 10000) ∷ [])) 339) (17 ∷ [])
+    ∷ row 17 (writing (numbers 90001 102900 ((120000, 1000000000000000) ∷ [])) 339) (17 ∷ [])
+    ∷ row 17 (writingTexts (ascii "6G") (ascii "T/2012/0001") (ascii "CONTACT NAME   ")) (17 ∷ [])
+    ∷ row 17 (writingTexts (ascii "6G1") (ascii "t/2012/0001") (ascii "CONTACT NAME   ")) (17 ∷ [])
+    ∷ row 17 (writingTexts (ascii "6G1") (ascii "T/2012/0001") (ascii "CONTACT NAME")) (17 ∷ [])
+    ∷ row 17 (writing (numbersWith Sender 100000) 338) (17 ∷ [])
+    ∷ row 18 (writing (numbersWith Sender 90001) 338) (18 ∷ [])
+    ∷ row 18 (writing (numbersWith Sender 90001) 339) []
+    ∷ row 18 (afterWriting (numbersWith Sender 90001) 338) (replicate 338 7)
+    ∷ row 339 (afterWriting (numbersWith Sender 90001) 341) (literal6G1 ++ (7 ∷ 7 ∷ []))
+    ∷ []
+
 -- the theorem: every row holds
 abbrev pub RowsHold : Type 0
-RowsHold = T (allHold (openingRows ++ stateRows ++ errorRows ++ replyRows))
+RowsHold = T (allHold (openingRows ++ openingOrderRows ++ termRows ++ stateRows ++ errorRows ++ errorOrderRows ++ replyRows ++ literalRows ++ writingRows))

@@ -1,11 +1,37 @@
--- What is proved of awards, marginal rate and rounds, besides demand 3 and the tables. Assumes nothing.
+-- What is proved of cancelling, condition 16, awards, marginal rate and rounds, besides demand 3 and the tables. Assumes nothing.
 use mathlib.Core.Path.{_≡_}
-use mathlib.Core.Bool.{true}
+use mathlib.Core.Bool.{true, false}
 use mathlib.Core.List.{List, List·Memᴰ}
-use mathlib.Core.Option.{none}
+use mathlib.Core.Option.{none, some}
 use Prim.Native.Nat.{ℕ, suc, _+_, _*_, _-_, _/_, _%_, _≤_, _<_, min}
 use lib.ListN.{length, getD}
 use Rattle.rules.specs.Allotment.{Bid, noBid, filled, Offer, totalBetter, totalEqual, binaryLength, firstDigits, Division, divisionAt, share, awards, sum, marginalRate, totalIn, walk}
+use Rattle.rules.specs.Opening.{Terms}
+use Rattle.rules.specs.Receiving.{Reception, submission, cancels, Entry, tenZeros, takes, hold}
+use Rattle.rules.specs.Calls.{bidsExceed}
+use Rattle.rules.specs.ArrivalOrder.{afterReceptions, afterClosing}
+
+-- 'Ten zero places cancel': a message cancels exactly when its bids are ten zeros
+abbrev pub CancelsWithTenZeros : Type 0
+CancelsWithTenZeros =
+    (t : Terms) (r : Reception)
+    → (cancels (submission t r) ≡ true → submission t r .bids ≡ tenZeros)
+    × (submission t r .bids ≡ tenZeros → cancels (submission t r) ≡ true)
+
+-- '.. the bids become zeros and the time is kept': what an entry holds once it takes such a message
+abbrev pub CancellingHoldsZeros : Type 0
+CancellingHoldsZeros =
+    (t : Terms) (r : Reception) (e : Entry)
+    → cancels (submission t r) ≡ true
+    → takes (submission t r) e ≡ true
+    → hold (submission t r) e ≡ record { code = e .code; held = some (submission t r .time); bids = tenZeros }
+
+-- condition 16 never holds after receptions, nor after closing: for every announcement, admitted list and list of receptions
+abbrev pub BidsNeverExceed : Type 0
+BidsNeverExceed =
+    (m codes : List ℕ) (rs : List Reception)
+    → (bidsExceed (afterReceptions m codes rs) ≡ false)
+    × ((date time : ℕ) → bidsExceed (afterClosing m codes rs date time) ≡ false)
 
 -- the awards add up to the smaller of the amount offered and the bids in
 abbrev pub AwardsAddUp : Type 0

@@ -11,7 +11,7 @@ use Rattle.rules.specs.Opening as rules
 use Rattle.rules.specs.Opening.{openingRefused, termsOf}
 use Rattle.rules.specs.Receiving.{newBook}
 use Rattle.rules.specs.Calls.{Open, noTender, openTender}
-use Rattle.rules.proofs.ArrivalOrder.{few-codes, rising-codes}
+use Rattle.rules.proofs.Opening.{few-codes, rising-codes}
 use Rattle.terms.specs.declared.Terms as declared
 use Rattle.terms.specs.declared.OpenAnswer.{OpenAnswer}
 use Rattle.terms.specs.Viewed as terms

@@ -8,7 +8,7 @@ use borrow.Author.Tests.{not-false}
 use Rattle.calendar.specs.Calendar.{validDate, validTime}
 use Rattle.envelope.specs.Refusals.{firstHolding, unlessRefused}
 use Rattle.rules.specs.Calls.{Tender, isRevoked, isOver, clockInvalid}
-use Rattle.rules.proofs.ArrivalOrder.{next-condition}
+use Rattle.rules.proofs.Opening.{next-condition}
 use Rattle.tender.specs.Viewed.{isSome}
 use Rattle.tender.specs.Parts.{notOpen}
 

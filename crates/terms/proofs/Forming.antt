@@ -10,7 +10,7 @@ use Rattle.envelope.specs.declared.announcement.Announcement.{Announcement}
 use Rattle.layout.specs.Fields.{readable}
 use Rattle.envelope.specs.Announcement.{layout6G0, announcementOf, reading}
 use Rattle.rules.specs.Opening.{isDate, isTime, wellFormed, notAnnouncement, openingRefused}
-use Rattle.rules.proofs.ArrivalOrder.{next-condition}
+use Rattle.rules.proofs.Opening.{next-condition}
 use Rattle.terms.specs.declared.OpenAnswer.{OpenAnswer}
 use Rattle.terms.specs.declared.OpenAnswer.the-variants.{Opened, NotAnnouncement, OtherOrigin, Malformed, UnknownType, Impossible, Disordered, BadCodes}
 use Rattle.terms.specs.Viewed.{referencesFormed, datesFormed, openRefusal, isOpened}
