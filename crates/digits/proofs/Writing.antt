@@ -10,7 +10,8 @@ use lib.ListN.{length, drop, set, length-append, length-set}
 use lib.Seq.{drop-cons, drop-at, getD-set-same, drop-set-lt}
 use borrow.Author.Tests.{le-leb}
 use Rattle.digits.specs.declared.Digits.the-variants.{Number}
-use Rattle.digits.specs.Decimal.{allDigits, numberFrom, numberOf, digitsOf, digits}
+use Rattle.digits.specs.Decimal.{allDigits, numberFrom, numberOf, digits}
+use Rattle.digits.specs.Theorems.{ReadWritten, NumberWritten}
 use Rattle.digits.proofs.Reading.{digit-range, first-digit, rest-digits, number-is, is-number, number-join, digits-join}
 
 pub length-digits : (w n : ℕ) → length (digits w n) ≡ w
@@ -81,7 +82,7 @@ written-number (suc w) n h =
     number-join 0 (digits w (n / 10)) ((48 + n % 10) ∷ []) ∙ rw i (omega arith)
 
 -- the return trip: a number that fits its width, written, reads back
-pub read-written : (w n : ℕ) → n < 10 ^ w → digitsOf (digits w n) ≡ Number n
+pub read-written : ReadWritten
 read-written w n h = number-is (digits w n) (written-digits w n) ∙ ap Number (written-number w n h)
 
 again : (k a : ℕ) (s : List ℕ) → allDigits s ≡ true → digits (k + length s) (numberFrom a s) ≡ digits k a ++ s
@@ -95,7 +96,7 @@ again k a (b ∷ s) h =
     rw l (again (suc k) (a * 10 + (b - 48)) s (rest-digits b s h) ∙ rw (q, d) (append-assoc (digits k a) (b ∷ []) s))
 
 -- and digits that were read, written from their number, are the same bytes
-pub number-written : (w n : ℕ) (s : List ℕ) → length s ≡ w → digitsOf s ≡ Number n → digits w n ≡ s
+pub number-written : NumberWritten
 unfolding digits
 number-written w n s l e =
     let p = is-number s n e in
