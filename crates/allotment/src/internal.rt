@@ -13,7 +13,7 @@ ghost use Rattle.awards.specs.LastRate.{lastOf};
 ghost use Rattle.bids.specs.Columns.{bidsOf};
 ghost use Rattle.marginal.specs.Ranks.{rateIn};
 ghost use Rattle.offer.specs.Viewed.{viewed};
-ghost use Rattle.allotment.specs.Allotted.{allottedTo};
+ghost use Rattle.allotment.specs.Allotted.{AllotsTo};
 
 // The last rate served: the marginal rate, or the limit rate where there is none.
 fn last_rate(o: Offer, m: MarginalRate) -> Rate
@@ -30,7 +30,7 @@ pub fn allot(o: Offer, rates: &[u32], amounts: &[u64], awards: &mut [u64]) -> Al
     requires { ⌜ length (now rates) ≡ length (now amounts) ⌝ }
     requires { ⌜ length (now awards) ≡ length (now amounts) ⌝ }
     requires { ⌜ length (now amounts) ≤ 640 ⌝ }
-    ensures { λ r. ⌜ (r .exceeds, rateIn (r .marginal), now (awards .exit)) ≡ allottedTo (viewed o) (bidsOf (now (rates .entry)) (now (amounts .entry))) (now (awards .entry)) ⌝ }
+    ensures { λ r. ⌜ AllotsTo (viewed o) (bidsOf (now (rates .entry)) (now (amounts .entry))) (now (awards .entry)) r (now (awards .exit)) ⌝ }
 {
     if exceeds(amounts) {
         return Allotment {

@@ -1,11 +1,9 @@
 -- The lines of the awards by index, as the code writes them, are those of the book's entries. Assumes nothing.
 use mathlib.Core.Path.{_≡_, refl, sym, ap, ap₂, _∙_}
-use mathlib.Core.Bool.{cond}
 use mathlib.Core.List.{List, [], _∷_, _++_, map, map-append, append-nil, append-assoc}
 use Prim.Native.Nat.{ℕ, zero, suc, _+_, _*_, _/_, _%_, _≤_}
 use native.Mathlib.Nat.{zero-add, add-zero, suc-add, add-suc}
 use native.Mathlib.Omega.{arith}
-use lib.Dec.{ltb}
 use lib.ListN.{length, getD, drop, length-append, length-map}
 use lib.Seq.{drop-cons, drop-drop, drop-at, getD-drop}
 use Rattle.rules.specs.Allotment.{Bid}
@@ -14,7 +12,8 @@ use Rattle.bids.specs.Columns.{bidsFrom, bidsOf}
 use Rattle.bids.proofs.Columns.{length-bids}
 use Rattle.book.specs.declared.Book.{Book}
 use Rattle.book.specs.Viewed.{entryAt, entriesFrom, upTo64, viewed, codesIn}
-use Rattle.log.specs.Lines.{awardLine, placeLines, awardLines}
+use Rattle.log.specs.Lines.{placeLines, awardLines}
+use Rattle.award_lines.specs.Places.{lineIfAny}
 
 abbrev rateOf : Bid → ℕ
 rateOf b = b .rate
@@ -54,10 +53,7 @@ element-at l n x m e = (
 
 -- the line of the award at an index, if it is above zero
 unfoldable pub lineAt : List ℕ → List ℕ → List ℕ → ℕ → List ℕ
-lineAt codes rates awards i =
-    cond (ltb 0 (getD awards i 0))
-    (awardLine (getD codes (i / 10) 0) (i % 10 + 1) (getD rates i 0) (getD awards i 0))
-    []
+lineAt codes rates awards i = lineIfAny (getD codes (i / 10) 0) (i % 10 + 1) (getD rates i 0) (getD awards i 0)
 
 -- the lines of d awards from index i on
 unfoldable pub linesFrom : List ℕ → List ℕ → List ℕ → ℕ → ℕ → List ℕ
@@ -97,7 +93,7 @@ module _ (codes rates awards : List ℕ) where
       rate : (getD rates n 0 ≡ b .rate) × (drop (suc n) rates ≡ map rateOf bs ++ others)
       rate = element-at rates n (b .rate) (map rateOf bs ++ others) same
 
-      line : cond (ltb 0 (getD awards n 0)) (awardLine (getD codes i 0) (suc k) (b .rate) (getD awards n 0)) [] ≡ lineAt codes rates awards n
+      line : lineIfAny (getD codes i 0) (suc k) (b .rate) (getD awards n 0) ≡ lineAt codes rates awards n
       line = rw (entry, place, rate .0)
 
   -- the lines of d entries from index i on

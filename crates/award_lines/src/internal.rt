@@ -5,18 +5,11 @@ use places::Amount;
 use places::Rate;
 use words::internal::put_digits;
 ghost use mathlib.Core.Path.{_≡_};
-ghost use mathlib.Core.Bool.{cond};
-ghost use mathlib.Core.List.{List, []};
-ghost use Prim.Native.Nat.{ℕ, _+_, _*_, _≤_};
-ghost use lib.Dec.{ltb};
+ghost use Prim.Native.Nat.{_+_, _*_, _≤_};
 ghost use lib.ListN.{length};
 ghost use Rattle.output.specs.Output.{Wrote};
-ghost use Rattle.rules.specs.Calls.{bidsInBook};
-ghost use Rattle.bids.specs.Columns.{bidsOf};
-ghost use Rattle.book.specs.declared.Book.{Book};
-ghost use Rattle.book.specs.Viewed.{viewed, codesIn};
-ghost use Rattle.log.specs.Lines.{awardLine, awardLines};
-ghost use Rattle.award_lines.specs.Places.{awardStart};
+ghost use Rattle.log.specs.Lines.{awardLine};
+ghost use Rattle.award_lines.specs.Places.{awardStart, lineIfAny, WritesAwards};
 
 // Writes code and place of an award.
 fn put_place(space: &mut [u8], at: usize, code: u32, place: u64) -> usize
@@ -52,7 +45,7 @@ fn put_if_any(
     award: Amount,
 ) -> usize
     requires { ⌜ at + 36 ≤ length (now space) ⌝ }
-    ensures { λ r. ⌜ Wrote (now (space .entry)) at (cond (ltb 0 (award .0)) (awardLine code place (rate .0) (award .0)) []) (now (space .exit)) r × (r ≤ at + 36) ⌝ }
+    ensures { λ r. ⌜ Wrote (now (space .entry)) at (lineIfAny code place (rate .0) (award .0)) (now (space .exit)) r × (r ≤ at + 36) ⌝ }
 {
     if 0 < award.0 {
         return put_award(space, at, code, place, rate, award);
@@ -62,8 +55,10 @@ fn put_if_any(
 
 // Writes the lines of all awards above zero, in book order, at the start of the space.
 pub fn put_awards(space: &mut [u8], codes: &[u32], rates: &[u32], awards: &[u64]) -> usize
-    requires { ⌜ (length (now rates) ≡ 10 * length (now codes)) × (length (now awards) ≡ 10 * length (now codes)) × (36 * length (now awards) ≤ length (now space)) ⌝ }
-    ensures { λ r. ⌜ ((b : Book) (amounts : List ℕ) → codesIn (viewed b) ≡ now (codes .entry) → bidsOf (now (rates .entry)) amounts ≡ bidsInBook (viewed b) → Wrote (now (space .entry)) 0 (awardLines (viewed b) (now (awards .entry))) (now (space .exit)) r) ⌝ }
+    requires { ⌜ length (now rates) ≡ 10 * length (now codes) ⌝ }
+    requires { ⌜ length (now awards) ≡ 10 * length (now codes) ⌝ }
+    requires { ⌜ 36 * length (now awards) ≤ length (now space) ⌝ }
+    ensures { λ r. ⌜ WritesAwards (now (codes .entry)) (now (rates .entry)) (now (awards .entry)) (now (space .entry)) (now (space .exit)) r ⌝ }
 {
     let mut at = 0;
     let mut i = 0;

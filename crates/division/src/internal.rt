@@ -28,7 +28,8 @@ fn chosen(condition: bool, a: u64, b: u64) -> u64
     b
 }
 
-// What of t is left when e is taken out of it as often as it goes in. Whether it goes in once is asked as `once < t`, because the compiler makes a branch of `e <= t`.
+// What of t is left when e is taken out of it as often as it goes in. Whether it goes in once is asked as
+// `once < t`, because the compiler makes a branch of `e <= t`.
 fn left(t: u64, e: u64) -> u64
     requires { ⌜ t < 3 * e ⌝ }
     requires { ⌜ e < 10 ^ 18 ⌝ }

@@ -22,7 +22,7 @@ loop-holds : tie.Need-loop-holds Inv-loop μ-loop
 unfolding linesFrom
 loop-holds c =
     let s = c .before .before .before .before in
-    (omega arith, s .pre .0, s .pre .1, s .pre .2, refl, omega arith, nothing (now (s .args .space)) 0)
+    (omega arith, s .pre .0, s .pre .1 .0, s .pre .1 .1, refl, omega arith, nothing (now (s .args .space)) 0)
 
 mul-code : tie.Need-mul-code Inv-loop μ-loop
 mul-code c = omega arith
@@ -78,7 +78,7 @@ returns c =
     let s = c .before .before .before .before .before .before in
     let a = s .args in
     λ b amounts same alike.
-    said (lines-viewed (now (a .codes)) (now (a .rates)) (now (a .awards)) b amounts (l .i) (s .pre .0) (s .pre .1) (omega arith) same alike) (l .inv .6)
+    said (lines-viewed (now (a .codes)) (now (a .rates)) (now (a .awards)) b amounts (l .i) (s .pre .0) (s .pre .1 .0) (omega arith) same alike) (l .inv .6)
 
 pub put-awards-spec : {M : Type 1} → statement M
 put-awards-spec =

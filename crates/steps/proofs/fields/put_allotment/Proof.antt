@@ -190,7 +190,7 @@ put-awards-requires c κs =
     let cs = lent-length (now (start .args .admitted)) n (omega (arith, e, start .pre .0 .0)) in
     let rs = lent-length (now (start .args .rates)) (10 * n) (omega (arith, e, start .pre .0 .1)) in
     let xs = ap length (lent-again (k .allot-bids .last .1 .1 .1 .1 .0) (drop (10 * n - 0) (replicate 640 0)) (10 * n) (awards-long k)) ∙ awards-long k in
-    (rs ∙ sym (ap (λ (m : ℕ). 10 * m) cs), xs ∙ sym (ap (λ (m : ℕ). 10 * m) cs), omega (arith, xs, e, start .pre .1))
+    (rs ∙ sym (ap (λ (m : ℕ). 10 * m) cs), (xs ∙ sym (ap (λ (m : ℕ). 10 * m) cs), omega (arith, xs, e, start .pre .1)))
 
 with-change-requires-2 : tie.Need-with-change-requires-2
 with-change-requires-2 c κs = search needs
