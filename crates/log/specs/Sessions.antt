@@ -48,8 +48,8 @@ refusedWith number = ascii "R ----- " ++ number ++ lineEnd
 unfoldable pub openingFields : List ℕ
 openingFields = field 0xA0 (ascii "900019000290003") ++ field 0xA1 announcement
 
-unfoldable pub applicationFrom : ℕ → List ℕ
-applicationFrom code = receivedAt 103000 (message code 102900 ((120000, 10000) ∷ []))
+unfoldable pub applicationBy : ℕ → List ℕ
+applicationBy code = receivedAt 103000 (message code 102900 ((120000, 10000) ∷ []))
 
 unfoldable pub confirmedAs : List ℕ → List ℕ
 confirmedAs code = ascii "C 12032012 103000 " ++ code ++ lineEnd
@@ -59,13 +59,13 @@ unfoldable pub sessions : List (List ℕ × List ℕ)
 sessions =
     (session, printed)
     -- before an accepted A1 fields are skipped, and a refused A1 is none
-    ∷ (applicationFrom 90001 ++ field 0xA3 (ascii "12032012110001") ++ field 0xA4 [] ++ field 0xA5 [] ++ field 0xA1 [], refusedWith (ascii "01"))
+    ∷ (applicationBy 90001 ++ field 0xA3 (ascii "12032012110001") ++ field 0xA4 [] ++ field 0xA5 [] ++ field 0xA1 [], refusedWith (ascii "01"))
     ∷ (field 0xA1 [] ++ field 0xA5 [], refusedWith (ascii "01"))
-    ∷ (field 0xA1 announcement ++ applicationFrom 90001, refusedWith (ascii "07"))
+    ∷ (field 0xA1 announcement ++ applicationBy 90001, refusedWith (ascii "07"))
     -- a refused A1 keeps the old tender
-    ∷ (openingFields ++ field 0xA1 [] ++ applicationFrom 90001, refusedWith (ascii "01") ++ confirmedAs (ascii "90001"))
+    ∷ (openingFields ++ field 0xA1 [] ++ applicationBy 90001, refusedWith (ascii "01") ++ confirmedAs (ascii "90001"))
     -- an A0 waits for the next A1
-    ∷ (openingFields ++ field 0xA0 (ascii "90009") ++ applicationFrom 90001 ++ field 0xA1 announcement ++ applicationFrom 90009, confirmedAs (ascii "90001") ++ confirmedAs (ascii "90009"))
+    ∷ (openingFields ++ field 0xA0 (ascii "90009") ++ applicationBy 90001 ++ field 0xA1 announcement ++ applicationBy 90009, confirmedAs (ascii "90001") ++ confirmedAs (ascii "90009"))
     -- fields of another length end the log, before an accepted A1 too
     ∷ (field 0xA2 (ascii "1203201210300") ++ field 0xA1 [], [])
     ∷ (field 0xA3 (ascii "120320121100010") ++ field 0xA1 [], [])

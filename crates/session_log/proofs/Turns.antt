@@ -16,7 +16,7 @@ use Rattle.journal.specs.Viewed.{viewed}
 use Rattle.journal.proofs.Whole.{written-first, log-of-runs}
 use Rattle.session_log.specs.declared.Turn.{Turn}
 use Rattle.session_log.specs.Turns as turns
-use Rattle.session_log.specs.Turns.{waiting, Within, Lines, Takes, Reads, Turned, TurnsAll, LogOfTurns}
+use Rattle.session_log.specs.Turns.{waiting, Within, Lines, TakesFields, ReadsMore, Turned, TurnsAll, LogOfTurns}
 
 -- what is left of a part of the buffer is a part of the buffer
 drop-take : (u n : ℕ) (l : List ℕ) → drop u (take n l) ≡ take (n - u) (drop u l)
@@ -51,7 +51,7 @@ waiting-length {t} {input} w =
     length-take-le (t .to - t .from) (drop (t .from) input) fits
 
 -- the turn after a run over all that waited
-pub taken-by : (t : Turn) (input space after : List ℕ) (l : Logged) (more : Bool) → Within t input → 23040 ≤ length space → Logs (viewed (t .journal)) (waiting t input) space l after → Takes t input space (record { more = more; reads = eqb (l .length) 0; from = t .from + l .used; to = t .to; length = l .length; journal = l .journal }) after
+pub taken-by : (t : Turn) (input space after : List ℕ) (l : Logged) (more : Bool) → Within t input → 23040 ≤ length space → Logs (viewed (t .journal)) (waiting t input) space l after → TakesFields t input space (record { more = more; reads = eqb (l .length) 0; from = t .from + l .used; to = t .to; length = l .length; journal = l .journal }) after
 taken-by t input space after l more w room k =
     let left = left-waits (t .from) (t .to) (l .used) input in
     let n = waiting-length w in
@@ -69,7 +69,7 @@ taken-by t input space after l more w room k =
     }
 
 -- the turn after a read behind what waited, which was moved to the start of the buffer
-pub read-behind : (t : Turn) (input moved after : List ℕ) (n : ℕ) (more : Bool) → Within t input → moved ≡ waiting t input ++ drop (t .to - t .from) input → take (t .to - t .from) after ≡ take (t .to - t .from) moved → t .to - t .from + n ≤ length after → Reads t input (record { more = more; reads = false; from = 0; to = t .to - t .from + n; length = 0; journal = t .journal }) after
+pub read-behind : (t : Turn) (input moved after : List ℕ) (n : ℕ) (more : Bool) → Within t input → moved ≡ waiting t input ++ drop (t .to - t .from) input → take (t .to - t .from) after ≡ take (t .to - t .from) moved → t .to - t .from + n ≤ length after → ReadsMore t input (record { more = more; reads = false; from = 0; to = t .to - t .from + n; length = 0; journal = t .journal }) after
 read-behind t input moved after n more w e p inside =
     let left = t .to - t .from in
     let l = waiting-length w in
@@ -97,7 +97,7 @@ still-within {t} {r} {input} {space} {after} {lines} k = go (t .reads) refl
     go false e = subst (Within r) (sym (k .taken e .0)) (k .taken e .1 .within)
 
 -- the lines of a run are the first bytes of its space
-pub lines-written : {t r : Turn} {input space after : List ℕ} → Takes t input space r after → Lines t r input (take (r .length) after)
+pub lines-written : {t r : Turn} {input space after : List ℕ} → TakesFields t input space r after → Lines t r input (take (r .length) after)
 lines-written {t} {r} {input} {space} {after} k rest =
     k .runs .log rest
     ∙ ap (λ (x : List ℕ). x ++ logFrom (viewed (r .journal)) (waiting r input ++ rest)) (sym (written-first space (k .runs .text) after (r .length) (k .runs .wrote)))

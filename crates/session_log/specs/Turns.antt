@@ -30,14 +30,14 @@ abbrev pub NoneWhole : Turn → List ℕ → Type 0
 NoneWhole t input = (holdsField (waiting t input) && not (viewed (t .journal) .ended)) ≡ false
 
 -- a turn that takes fields: all that waits was handed to one run, what it left waits where it stands, and its lines are the first bytes of the space
-pub record Takes (t : Turn) (input space : List ℕ) (r : Turn) (after : List ℕ) : Type 0 where
+pub record TakesFields (t : Turn) (input space : List ℕ) (r : Turn) (after : List ℕ) : Type 0 where
   pub runs : Runs (viewed (t .journal)) (waiting t input) space (viewed (r .journal)) (waiting r input) after (r .length)
   pub room : r .length ≤ length space
   pub within : Within r input
   pub all : r .reads ≡ true → NoneWhole r input
 
 -- a turn that reads: what waited stands at the start of the buffer, and behind it what was read
-pub record Reads (t : Turn) (input : List ℕ) (r : Turn) (after : List ℕ) : Type 0 where
+pub record ReadsMore (t : Turn) (input : List ℕ) (r : Turn) (after : List ℕ) : Type 0 where
   pub kept : waiting r after ≡ waiting t input ++ drop (length (waiting t input)) (waiting r after)
   pub journal-kept : r .journal ≡ t .journal
   pub within : Within r after
@@ -45,8 +45,8 @@ pub record Reads (t : Turn) (input : List ℕ) (r : Turn) (after : List ℕ) : T
 
 -- a turn reads or takes fields, as the last one said
 pub record Turned (t : Turn) (input space : List ℕ) (r : Turn) (input₂ after : List ℕ) : Type 0 where
-  pub read : t .reads ≡ true → Reads t input r input₂
-  pub taken : t .reads ≡ false → (input₂ ≡ input) × Takes t input space r after
+  pub read : t .reads ≡ true → ReadsMore t input r input₂
+  pub taken : t .reads ≡ false → (input₂ ≡ input) × TakesFields t input space r after
 
 -- the bytes that a turn read
 abbrev pub got : Turn → List ℕ → Turn → List ℕ → List ℕ
@@ -57,12 +57,12 @@ pub data TurnsAll : Turn → List ℕ → List ℕ → List ℕ → Type 0 where
   no-more : {t : Turn} {input : List ℕ} → NoneWhole t input → TurnsAll t input [] []
   and-reads :
       {t r : Turn} {input after read text : List ℕ}
-      → Reads t input r after
+      → ReadsMore t input r after
       → TurnsAll r after read text
       → TurnsAll t input (got t input r after ++ read) text
   and-takes :
       {t r : Turn} {input space after read text : List ℕ}
-      → Takes t input space r after
+      → TakesFields t input space r after
       → TurnsAll r input read text
       → TurnsAll t input read (take (r .length) after ++ text)
 

@@ -9,7 +9,7 @@ ghost use mathlib.Core.Path.{_≡_};
 ghost use mathlib.Core.List.{_++_};
 ghost use Prim.Native.Nat.{_+_, _≤_};
 ghost use lib.ListN.{length, take, drop};
-ghost use Rattle.session_log.specs.Turns.{Within, Lines, Takes, Reads, Turned};
+ghost use Rattle.session_log.specs.Turns.{Within, Lines, TakesFields, ReadsMore, Turned};
 
 // Where the program stands: whether there is more to do, whether it reads next or takes fields, the indices between which the bytes wait that were read and not yet taken,
 // the length of the lines of the last run, and the journal.
@@ -25,7 +25,7 @@ struct Turn {
 // Hands all bytes that wait to a run. It reads next where the run gave no line: then no whole field waits.
 fn take_fields(t: Turn, input: &[u8], lines: &mut [u8]) -> Turn
     requires { ⌜ Within t (now input) × (23040 ≤ length (now lines)) ⌝ }
-    ensures { λ r. ⌜ Takes t (now (input .entry)) (now (lines .entry)) r (now (lines .exit)) ⌝ }
+    ensures { λ r. ⌜ TakesFields t (now (input .entry)) (now (lines .entry)) r (now (lines .exit)) ⌝ }
 {
     let journal = t.journal;
     let from = t.from;
@@ -56,7 +56,7 @@ fn write_lines(t: Turn, next: Turn, input: &[u8], lines: &[u8]) -> bool
 // Takes the fields that wait and writes their lines; after lines that cannot be written there is no more to do.
 fn log_fields(t: Turn, input: &[u8], lines: &mut [u8]) -> Turn
     requires { ⌜ Within t (now input) × (23040 ≤ length (now lines)) ⌝ }
-    ensures { λ r. ⌜ Takes t (now (input .entry)) (now (lines .entry)) r (now (lines .exit)) ⌝ }
+    ensures { λ r. ⌜ TakesFields t (now (input .entry)) (now (lines .entry)) r (now (lines .exit)) ⌝ }
 {
     let mut next = take_fields(t, input, lines);
     let n = next.length;
@@ -80,7 +80,7 @@ fn move_to_start(input: &mut [u8], from: usize, n: usize)
 // Moves what waits to the start and reads once behind it; input that ends, or cannot be read, is the end.
 fn read_more(t: Turn, input: &mut [u8]) -> Turn
     requires { ⌜ Within t (now input) ⌝ }
-    ensures { λ r. ⌜ Reads t (now (input .entry)) r (now (input .exit)) ⌝ }
+    ensures { λ r. ⌜ ReadsMore t (now (input .entry)) r (now (input .exit)) ⌝ }
 {
     let left = t.to - t.from;
     move_to_start(input, t.from, left);
