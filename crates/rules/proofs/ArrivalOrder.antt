@@ -20,7 +20,7 @@ use Rattle.rules.specs.Calls.{Open, Closed, Tender, inState, openTender,
 use Rattle.rules.specs.ArrivalOrder.{receiveAll, EnoughSpace, NoConflict, Rearranged, PastCutOff, afterReceptions, afterClosing, finalBids, allFinalBids, finalBook, Settled, ArrivalOrder, AnyLatest}
 use Rattle.rules.proofs.Sum.{awards-sum}
 use Rattle.rules.proofs.Rearranging.{mem-map, map-mem, rearranged-mem, rearranged-back, rearranged-map}
-use Rattle.rules.proofs.Exceeding.{bids-never-exceed}
+use Rattle.rules.proofs.Events.{closed-not-exceeding}
 use Rattle.rules.proofs.Cancelling.{ten-places}
 use Rattle.rules.proofs.Book.{Agreeing, TenBids, holdAllIn, finalEntry, book-final, book-rearranged, final-any}
 
@@ -163,7 +163,7 @@ module _ (m codes : List ℕ) (h : openingRefused m codes ≡ none) (rs : List R
   closed-is = ap (λ (x : Tender). close x date time .1) after-is ∙ closed (termsOf m codes) book date time past
 
   accepted : allottingRefused (inState Closed (openWith (termsOf m codes) book)) ≡ none
-  accepted = allotting-accepted (termsOf m codes) book date time past (subst (λ (x : Tender). bidsExceed x ≡ false) closed-is (bids-never-exceed m codes rs .1 date time))
+  accepted = allotting-accepted (termsOf m codes) book date time past (subst (λ (x : Tender). bidsExceed x ≡ false) closed-is (closed-not-exceeding m codes rs date time))
 
   settled : Settled m codes rs date time (finalBook (termsOf m codes) rs)
   unfolding close allot

@@ -1,5 +1,6 @@
 pub mod Kept
 pub mod Rates
+pub mod ByRates
 pub mod Best
 pub mod Division
 pub mod Sum
@@ -7,7 +8,7 @@ pub mod Walk
 pub mod Bound
 pub mod Rearranging
 pub mod Opening
-pub mod Exceeding
+pub mod Events
 pub mod Cancelling
 pub mod Book
 pub mod ArrivalOrder

@@ -1,21 +1,20 @@
 -- The awards add up to the smaller of Q and the total of the bids in: so at one rate, given it at the better ones, and then over all numbers as
 -- rates, best first. Assumes nothing.
 use mathlib.Core.Path.{_≡_, refl, sym, _∙_, ap}
-use mathlib.Core.Bool.{Bool, true, false, not, cond, and-true, and-false, Bool·not-not}
-use mathlib.Core.List.{List, [], _∷_, _++_, List·Memᴰ, List·Memᴰ·head, List·Memᴰ·tail}
-use Prim.Native.Nat.{ℕ, zero, suc, _+_, _-_, _*_, _≤_, _<_, min}
+use mathlib.Core.Bool.{Bool, true, false, cond}
+use mathlib.Core.List.{List, [], _∷_, _++_, List·Memᴰ·head, List·Memᴰ·tail}
+use Prim.Native.Nat.{ℕ, suc, _+_, _-_, _*_, _≤_, _<_, min}
 use native.Mathlib.Nat.{mul-div-le, lt-mul-div-succ, le-of-mul-le-mul-left}
 use native.Mathlib.Omega.{arith}
 use lib.Dec.{leb, ltb, eqb}
 use lib.ListN.{length}
-use borrow.Author.Tests.{ltb-true, ltb-false, leb-true, leb-false, eqb-true, lt-ltb, le-ltb}
+use borrow.Author.Tests.{ltb-true, ltb-false, leb-true, leb-false, eqb-true}
 use Rattle.laws.proofs.Tests.{and-left, and-right}
-use Rattle.envelope.specs.declared.announcement.Side.{Side}
-use Rattle.envelope.specs.declared.announcement.Side.the-variants.{La, Lp}
-use Rattle.rules.specs.Allotment.{Bid, Offer, betterRate, isIn, isBetter, isEqual, keep, total, totalBetter, totalEqual, share, shares, centsLeft, cent, award, awardsFrom, awards, sum, totalIn}
+use Rattle.rules.specs.Allotment.{Bid, Offer, isIn, isBetter, isEqual, keep, total, totalBetter, totalEqual, share, shares, centsLeft, cent, award, awardsFrom, awards, sum, totalIn}
 use Rattle.rules.proofs.Division.{share-is}
 use Rattle.rules.proofs.Kept.{Agree, keep-agree, Split, total-split, length-last}
 use Rattle.rules.proofs.Rates.{notWorse, split-rate}
+use Rattle.rules.proofs.ByRates.{never, of-all-in}
 
 -- one cent more, while there are cents left
 cent-step : (c l : ℕ) → cent c l + min l c ≡ min l (suc c)
@@ -189,9 +188,6 @@ unfolding part
 part-agree o all p q before [] h = refl
 part-agree o all p q before (b ∷ bs) h = rw (h b (List·Memᴰ·head refl), part-agree o all p q (before ++ (b ∷ [])) bs (λ c k. h c (List·Memᴰ·tail k)))
 
-abbrev never : Bid → Bool
-never b = false
-
 keep-never : (bs : List Bid) → total (keep never bs) ≡ 0
 unfolding keep total
 keep-never [] = refl
@@ -210,71 +206,9 @@ sums-never : (o : Offer) (bs : List Bid) → Sums o bs never
 unfolding Sums
 sums-never o bs = omega (arith, part-never o bs [] bs, keep-never bs)
 
--- no rate of the list is above this
-rateBound : List Bid → ℕ
-rateBound [] = 0
-rateBound (b ∷ bs) = b .rate + rateBound bs
-
-below-bound : {b : Bid} {bs : List Bid} → List·Memᴰ b bs → b .rate ≤ rateBound bs
-unfolding rateBound
-below-bound (List·Memᴰ·head e) = omega (arith, ap {B = ℕ} (λ (b : Bid). b .rate) e)
-below-bound (List·Memᴰ·tail m) = omega (arith, below-bound m)
-
--- from one rate to the next
-
-below-suc : (x r : ℕ) → ltb x (suc r) ≡ not (ltb r x)
-below-suc x r = go (ltb r x) refl
-  where
-    go : (t : Bool) → ltb r x ≡ t → ltb x (suc r) ≡ not t
-    go true e = le-ltb x (suc r) (omega (arith, ltb-true))
-    go false e = lt-ltb x (suc r) (omega (arith, ltb-false))
-
--- LA: from rate 0 up
-module _ (o : Offer) (bs : List Bid) (la : o .side ≡ La) where
-  none-below : Agree (isBetter o 0) never bs
-  unfolding isBetter betterRate
-  none-below b m = rw (la, le-ltb (b .rate) 0 (omega arith), and-false)
-
-  up-one : (r : ℕ) → Agree (isBetter o (suc r)) (notWorse o r) bs
-  unfolding isBetter notWorse betterRate
-  up-one r b m = rw (la, below-suc (b .rate) r)
-
-  all-below : Agree (isIn o) (isBetter o (suc (rateBound bs))) bs
-  unfolding isBetter betterRate
-  all-below b m = rw (la, lt-ltb (b .rate) (suc (rateBound bs)) (omega (arith, below-bound m)), and-true)
-
-  up : (r : ℕ) → Sums o bs (isBetter o r)
-  up zero = sums-agree o bs (isBetter o 0) never none-below (sums-never o bs)
-  up (suc r) = sums-agree o bs (isBetter o (suc r)) (notWorse o r) (up-one r) (with-rate o bs r (up r))
-
-  sums-La : Sums o bs (isIn o)
-  sums-La = sums-agree o bs (isIn o) (isBetter o (suc (rateBound bs))) all-below (up (suc (rateBound bs)))
-
--- LP: from a bound of the rates down
-module _ (o : Offer) (bs : List Bid) (lp : o .side ≡ Lp) where
-  none-above : (r : ℕ) → rateBound bs ≤ r → Agree (isBetter o r) never bs
-  unfolding isBetter betterRate
-  none-above r h b m = rw (lp, le-ltb r (b .rate) (omega (arith, below-bound m)), and-false)
-
-  down-one : (r : ℕ) → Agree (isBetter o r) (notWorse o (suc r)) bs
-  unfolding isBetter notWorse betterRate
-  down-one r b m = rw (lp, below-suc (b .rate) r, Bool·not-not)
-
-  all-above : Agree (isIn o) (notWorse o 0) bs
-  unfolding notWorse betterRate
-  all-above b m = rw (lp, le-ltb (b .rate) 0 (omega arith), and-true)
-
-  down : (d r : ℕ) → rateBound bs ≤ d + r → Sums o bs (isBetter o r)
-  down zero r h = sums-agree o bs (isBetter o r) never (none-above r (omega arith)) (sums-never o bs)
-  down (suc d) r h = sums-agree o bs (isBetter o r) (notWorse o (suc r)) (down-one r) (with-rate o bs (suc r) (down d (suc r) (omega arith)))
-
-  sums-Lp : Sums o bs (isIn o)
-  sums-Lp = sums-agree o bs (isIn o) (notWorse o 0) all-above (with-rate o bs 0 (down (rateBound bs) 0 (omega arith)))
-
-sums-in : (o : Offer) (bs : List Bid) (d : Side) → o .side ≡ d → Sums o bs (isIn o)
-sums-in o bs La e = sums-La o bs e
-sums-in o bs Lp e = sums-Lp o bs e
+sums-in : (o : Offer) (bs : List Bid) → Sums o bs (isIn o)
+sums-in o bs = of-all-in o bs (Sums o bs) (sums-agree o bs) (sums-never o bs) (with-rate o bs)
 
 pub awards-sum : (o : Offer) (bs : List Bid) → sum (awards o bs) ≡ min (o .offered) (totalIn o bs)
 unfolding awards totalIn Sums
-awards-sum o bs = part-all o bs [] bs ∙ sums-in o bs (o .side) refl
+awards-sum o bs = part-all o bs [] bs ∙ sums-in o bs

@@ -3,6 +3,7 @@ pub mod Opening
 pub mod Receiving
 pub mod Replies
 pub mod Calls
+pub mod Events
 pub mod ArrivalOrder
 pub mod Theorems
 pub mod Messages

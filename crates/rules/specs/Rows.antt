@@ -10,9 +10,11 @@ use Rattle.envelope.specs.declared.application.Field.{Field}
 use Rattle.envelope.specs.declared.application.Field.the-variants.{MessageType, Sender, Recipient, Cro, Date, Time, Check, Identifier, Bids}
 use Rattle.envelope.specs.declared.application.Application.{Application}
 use Rattle.envelope.specs.Application.{position, readingRefused, writingRefused, write}
-use Rattle.rules.specs.Receiving.{Reception, Submission, submission, errors}
+use Rattle.rules.specs.Allotment.{total}
+use Rattle.rules.specs.Receiving.{Reception, Submission, submission, Entry, errors}
 use Rattle.rules.specs.Replies.{errorTexts}
-use Rattle.rules.specs.Calls.{Closed, Announced, Revoked, Tender, inState, Answer, confirmed, returned, refused, openTender, receivingRefused, receive, closingRefused, close, allottingRefused, places640, allot, revokingRefused, revoke}
+use Rattle.rules.specs.Calls.{State, Open, Closed, Announced, Revoked, Tender, inState, Answer, confirmed, returned, refused, openTender, receivingRefused, receive, closingRefused, close, allottingRefused, places640, allot, revokingRefused, revoke}
+use Rattle.rules.specs.Events.{Event, receiveEvent, closeEvent, allotEvent, revokeEvent, afterEvents}
 use Rattle.rules.specs.Messages.{_is_, Most, Maximum, announcementWith, announcement, admitted, terms, Pairs, numbers, message, messageWith, zeroPlaces, reception}
 use Rattle.rules.specs.Marked.{code, rate, amount, Row, row, allHold, listOf, tenderAfter}
 use Rattle.rules.specs.OpeningRows.{openingRows, openingOrderRows, literal6G0, termRows}
@@ -100,6 +102,29 @@ stateRows =
     ∷ row 0 (revoking (inState Closed opened)) []
     -- a refused opening gives a tender on which every call is refused
     ∷ row 8 (closing (openTender [] admitted .1) 12032012 110001) (8 ∷ [])
+    ∷ []
+
+-- where a tender stands after events, and the amounts in the first place of each entry
+abbrev pub stateNumber : State → ℕ
+stateNumber Open = 0
+stateNumber Closed = 1
+stateNumber Announced = 2
+stateNumber Revoked = 3
+
+unfoldable pub afterwards : List Event → List ℕ
+afterwards es =
+    let t : Tender = afterEvents opened es in
+    stateNumber (t .state) ∷ map (λ (e : Entry). total (e .bids)) (t .book)
+
+unfoldable pub eventRows : List Row
+eventRows =
+    row 0 (afterwards []) (0 ∷ 0 ∷ 0 ∷ 0 ∷ [])
+    ∷ row 0 (afterwards (receiveEvent (reception 103000 application) ∷ closeEvent 12032012 110000 ∷ [])) (0 ∷ 10000 ∷ 0 ∷ 0 ∷ [])
+    ∷ row 0 (afterwards (receiveEvent (reception 103000 application) ∷ closeEvent 12032012 110001 ∷ [])) (1 ∷ 10000 ∷ 0 ∷ 0 ∷ [])
+    ∷ row 0 (afterwards (receiveEvent (reception 103000 application) ∷ closeEvent 12032012 110001 ∷ allotEvent ∷ [])) (2 ∷ 10000 ∷ 0 ∷ 0 ∷ [])
+    -- a refused event leaves the tender
+    ∷ row 0 (afterwards (closeEvent 12032012 110001 ∷ receiveEvent (reception 103000 application) ∷ allotEvent ∷ revokeEvent ∷ [])) (2 ∷ 0 ∷ 0 ∷ 0 ∷ [])
+    ∷ row 0 (afterwards (revokeEvent ∷ receiveEvent (reception 103000 application) ∷ [])) (3 ∷ 0 ∷ 0 ∷ 0 ∷ [])
     ∷ []
 
 -- an answer as numbers: what it is, its length, the codes of its errors
@@ -312,4 +337,4 @@ writingRows =
 
 -- the theorem: every row holds
 abbrev pub RowsHold : Type 0
-RowsHold = T (allHold (openingRows ++ openingOrderRows ++ termRows ++ stateRows ++ errorRows ++ errorOrderRows ++ replyRows ++ literalRows ++ writingRows))
+RowsHold = T (allHold (openingRows ++ openingOrderRows ++ termRows ++ stateRows ++ eventRows ++ errorRows ++ errorOrderRows ++ replyRows ++ literalRows ++ writingRows))

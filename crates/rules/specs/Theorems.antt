@@ -1,15 +1,15 @@
--- What is proved of cancelling, condition 16, awards, marginal rate and rounds, besides demand 3 and the tables. Assumes nothing.
+-- What is proved of cancelling, of all tenders that calls give, of awards, marginal rate and rounds, besides demand 3 and the tables. Assumes nothing.
 use mathlib.Core.Path.{_≡_}
 use mathlib.Core.Bool.{true, false}
 use mathlib.Core.List.{List, List·Memᴰ}
 use mathlib.Core.Option.{none, some}
 use Prim.Native.Nat.{ℕ, suc, _+_, _*_, _-_, _/_, _%_, _≤_, _<_, min}
 use lib.ListN.{length, getD}
-use Rattle.rules.specs.Allotment.{Bid, noBid, filled, Offer, totalBetter, totalEqual, binaryLength, firstDigits, Division, divisionAt, share, awards, sum, marginalRate, totalIn, walk}
+use Rattle.rules.specs.Allotment.{Bid, noBid, filled, Offer, total, totalBetter, totalEqual, binaryLength, firstDigits, Division, divisionAt, share, awards, sum, marginalRate, totalIn, walk}
 use Rattle.rules.specs.Opening.{Terms}
 use Rattle.rules.specs.Receiving.{Reception, submission, cancels, Entry, tenZeros, takes, hold}
-use Rattle.rules.specs.Calls.{bidsExceed}
-use Rattle.rules.specs.ArrivalOrder.{afterReceptions, afterClosing}
+use Rattle.rules.specs.Calls.{Tender, openTender, bidsInBook, bidsExceed}
+use Rattle.rules.specs.Events.{Event, afterEvents, Kept}
 
 -- 'Ten zero places cancel': a message cancels exactly when its bids are ten zeros
 abbrev pub CancelsWithTenZeros : Type 0
@@ -26,12 +26,17 @@ CancellingHoldsZeros =
     → takes (submission t r) e ≡ true
     → hold (submission t r) e ≡ record { code = e .code; held = some (submission t r .time); bids = tenZeros }
 
--- condition 16 never holds after receptions, nor after closing: for every announcement, admitted list and list of receptions
+-- 'Every tender handed to a call was given by opening or an earlier call, and what holds of all those may be relied on'
+abbrev pub EventsKeep : Type 0
+EventsKeep = (m codes : List ℕ) (es : List Event) → Kept (afterEvents (openTender m codes .1) es)
+
+-- 64 counterparties, ten bids and fifteen digits: the bids of a book stay under 640,000,000,000,000,000 eurocents
+abbrev pub KeptIsBounded : Type 0
+KeptIsBounded = (t : Tender) → Kept t → total (bidsInBook (t .book)) ≤ 639999999999999360
+
+-- condition 16 holds of no tender that opening and events of any kind leave
 abbrev pub BidsNeverExceed : Type 0
-BidsNeverExceed =
-    (m codes : List ℕ) (rs : List Reception)
-    → (bidsExceed (afterReceptions m codes rs) ≡ false)
-    × ((date time : ℕ) → bidsExceed (afterClosing m codes rs date time) ≡ false)
+BidsNeverExceed = (m codes : List ℕ) (es : List Event) → bidsExceed (afterEvents (openTender m codes .1) es) ≡ false
 
 -- the awards add up to the smaller of the amount offered and the bids in
 abbrev pub AwardsAddUp : Type 0
