@@ -1,4 +1,5 @@
-// A program that calls the book, for a maker to copy: docs/MAKERS.md goes through it. It runs the worked session of document 01 and prints the answer of every call and every award.
+// A program that calls the book, for a maker to copy: docs/MAKERS.md goes through it. It runs the worked session of
+// document 01 and prints the answer of every call and every award.
 mod lines;
 mod messages;
 

@@ -1,4 +1,5 @@
-// Reads a session from standard input and writes its log to standard output: the lines of all fields that were read whole stand before more is read.
+// Reads a session from standard input and writes its log to standard output: the lines of all fields that were
+// read whole are written before more is read.
 use journal::Journal;
 use journal::has_ended;
 use journal::run;
@@ -11,8 +12,8 @@ ghost use Prim.Native.Nat.{_+_, _≤_};
 ghost use lib.ListN.{length, take, drop};
 ghost use Rattle.session_log.specs.Turns.{Within, Lines, TakesFields, ReadsMore, Turned};
 
-// Where the program stands: whether there is more to do, whether it reads next or takes fields, the indices between which the bytes wait that were read and not yet taken,
-// the length of the lines of the last run, and the journal.
+// Where the program stands: whether there is more to do, and whether it reads next or takes fields; the indices
+// between which the bytes wait that were read and not yet taken; the length of the last run's lines; the journal.
 struct Turn {
     more: bool,
     reads: bool,
@@ -42,7 +43,8 @@ fn take_fields(t: Turn, input: &[u8], lines: &mut [u8]) -> Turn
     }
 }
 
-// Writes the lines of the fields that were taken between two turns, which the contract asks for; where they cannot be written it says so.
+// Writes the lines of the fields that were taken between two turns. It asks for the turns and the input, and uses
+// neither, so that its contract can say which lines they are. Where they cannot be written it says so.
 fn write_lines(t: Turn, next: Turn, input: &[u8], lines: &[u8]) -> bool
     requires { ⌜ Lines t next (now input) (now lines) ⌝ }
 {
