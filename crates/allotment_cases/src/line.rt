@@ -1,7 +1,7 @@
 // What is printed of a case: its name, what is awarded, and the marginal rate or none.
 use crate::book::Bids;
 use allotment::internal::allot;
-use envelope::announcement::Side;
+use announcement::Side;
 use marginal::MarginalRate;
 use offer::Offer;
 use places::Amount;

@@ -1,7 +1,7 @@
 // Books in which every place holds a bid of fifteen digits.
 use crate::book::Bids;
 use crate::line::summed;
-use envelope::announcement::Side;
+use announcement::Side;
 
 const WIDEST: u64 = 999_999_999_999_999;
 

@@ -1,7 +1,7 @@
 // M7 to M9 of document 01, and the example of source document 002 under document 01's rules.
 use crate::book::Bids;
 use crate::line::case;
-use envelope::announcement::Side;
+use announcement::Side;
 
 // M7 to M9.
 pub fn marked() {

@@ -1,7 +1,7 @@
 // Condition 16: the most that the bids in the book may add up to.
 use crate::book::Bids;
 use crate::line::case;
-use envelope::announcement::Side;
+use announcement::Side;
 
 const MOST: u64 = 999_999_999_999_999_999;
 

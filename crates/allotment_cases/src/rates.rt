@@ -1,7 +1,7 @@
 // Which bids are in, by their rates.
 use crate::book::Bids;
 use crate::line::case;
-use envelope::announcement::Side;
+use announcement::Side;
 
 // The limit rate is in, and a rate one step or less beyond it is out; the other limit rates leave every bid out.
 pub fn limit() {

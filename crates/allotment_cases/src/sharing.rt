@@ -1,7 +1,7 @@
 // What becomes of the amount offered.
 use crate::book::Bids;
 use crate::line::case;
-use envelope::announcement::Side;
+use announcement::Side;
 
 // The offer is met exactly at the last rate, exactly before it, and not met by one cent.
 pub fn met() {

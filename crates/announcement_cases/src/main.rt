@@ -1,15 +1,15 @@
 // Cases of a 6G0 that run instead of being proved. What is printed is held to the file stdout,
 // which was written from document 01.
 
-use envelope::announcement::Announcement;
-use envelope::announcement::Characteristics;
-use envelope::announcement::Field;
-use envelope::announcement::Kind;
-use envelope::announcement::References;
-use envelope::announcement::Side;
-use envelope::announcement::bytes;
-use envelope::announcement::dates_ordered;
-use envelope::announcement::read;
+use announcement::Announcement;
+use announcement::Characteristics;
+use announcement::Field;
+use announcement::Kind;
+use announcement::References;
+use announcement::Side;
+use announcement::bytes;
+use announcement::dates_ordered;
+use announcement::read;
 
 // Document 01's tender, with another byte at an index.
 fn message(at: usize, b: u8) -> [u8; 225] {

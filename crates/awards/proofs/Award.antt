@@ -8,7 +8,7 @@ use native.Mathlib.Omega.{arith}
 use lib.Dec.{leb, ltb, eqb}
 use lib.ListN.{length}
 use borrow.Author.Tests.{ltb-true, ltb-false, leb-false, lt-ltb, le-ltb, eq-eqb, ne-eqb}
-use Rattle.envelope.specs.declared.announcement.Side.{Side}
+use Rattle.announcement.specs.declared.Side.{Side}
 use Rattle.rules.specs.Allotment.{Bid, Offer, betterRate, isIn, isBetter, isEqual, keep, total, totalBetter, totalEqual, share, shares, centsLeft, cent, award}
 use Rattle.rules.proofs.Division.{share-is}
 use Rattle.rules.proofs.Kept.{total-split}

@@ -2,6 +2,4 @@ pub mod Refusals
 pub mod Application
 pub mod Writing
 pub mod ReturnTrip
-pub mod Announcement
-pub mod Parts
 pub mod Promise

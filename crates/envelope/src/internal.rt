@@ -1,5 +1,4 @@
 // What asks for a message that was found readable.
-use crate::announcement;
 use crate::application::Field;
 use digits::Digits;
 use digits::internal::number;
@@ -12,7 +11,6 @@ ghost use lib.ListN.{length};
 ghost use Rattle.digits.specs.Decimal.{digitsOf};
 ghost use Rattle.layout.specs.Fields.{IsOneOf, atMost, readable, content, whole};
 ghost use Rattle.envelope.specs.Application.{entryOf, layout6G1, position, bytesOf};
-ghost use Rattle.envelope.specs.Announcement as announced;
 
 // The number in field k, counted from 0.
 pub fn number_in(m: &[u8], k: usize) -> Digits
@@ -64,41 +62,4 @@ pub fn digits_in(m: &[u8], f: Field) -> Digits
     ensures { λ r. ⌜ r ≡ digitsOf (bytesOf f (now (m .entry))) ⌝ }
 {
     number(bytes_in(m, f))
-}
-
-// The place of a field in the layout of a 6G0.
-pub fn position_in_6g0(f: announcement::Field) -> usize
-    ensures { λ r. ⌜ r ≡ announced.position f ⌝ }
-{
-    match f {
-        announcement::Field::MessageType => 0,
-        announcement::Field::Sender => 1,
-        announcement::Field::Recipient => 2,
-        announcement::Field::Cro => 3,
-        announcement::Field::Date => 4,
-        announcement::Field::Time => 5,
-        announcement::Field::Identifier => 6,
-        announcement::Field::TenderType => 7,
-        announcement::Field::Characteristics => 8,
-        announcement::Field::SpotDate => 9,
-        announcement::Field::ForwardDate => 10,
-        announcement::Field::Cutoff => 11,
-    }
-}
-
-// The bytes of a field of a readable 6G0, as many as one of the lengths of its entry.
-pub fn bytes_in_6g0(m: &[u8], f: announcement::Field) -> &[u8]
-    requires { ⌜ readable announced.layout6G0 (now m) ≡ true ⌝ }
-    ensures { λ r. ⌜ (now r ≡ announced.bytesOf f (now (m .entry))) × IsOneOf (announced.entryOf f .lengths) (length (now r)) ⌝ }
-{
-    contents(m, position_in_6g0(f))
-}
-
-// What a digit field of a readable 6G0 holds.
-pub fn digits_in_6g0(m: &[u8], f: announcement::Field) -> Digits
-    requires { ⌜ readable announced.layout6G0 (now m) ≡ true ⌝ }
-    requires { ⌜ atMost 19 (announced.entryOf f .lengths) ≡ true ⌝ }
-    ensures { λ r. ⌜ r ≡ digitsOf (announced.bytesOf f (now (m .entry))) ⌝ }
-{
-    number(bytes_in_6g0(m, f))
 }

@@ -1,4 +1,3 @@
-// The messages of a tender as bytes. It knows nothing of tenders.
-pub mod announcement;
+// A 6G1 as bytes, and what other messages share with it. It knows nothing of tenders.
 pub mod application;
 pub mod internal;

@@ -5,8 +5,8 @@ use mathlib.Core.List.{List}
 use Prim.Native.Nat.{ℕ, _≤_}
 use native.Mathlib.Omega.{arith}
 use borrow.Author.Tests.{ltb-true, ltb-false, lt-ltb, le-ltb}
-use Rattle.envelope.specs.declared.announcement.Side.{Side}
-use Rattle.envelope.specs.declared.announcement.Side.the-variants.{La, Lp}
+use Rattle.announcement.specs.declared.Side.{Side}
+use Rattle.announcement.specs.declared.Side.the-variants.{La, Lp}
 use Rattle.sort.specs.Sorting.{Same}
 use Rattle.sort.proofs.Sorting.{each-still}
 use Rattle.rules.specs.Allotment.{Bid, Offer, betterRate}

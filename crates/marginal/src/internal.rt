@@ -1,7 +1,7 @@
 // The walk over the bids in, best rate first, for bids that condition 16 allows.
 use crate::MarginalRate;
+use announcement::Side;
 use bids::Bid;
-use envelope::announcement::Side;
 use offer::Offer;
 use offer::is_in;
 use offer::rank;

@@ -1,7 +1,7 @@
 // For measuring only: one share and one allotment, on numbers that a benchmark in C gives.
 use allotment::internal::allot;
+use announcement::Side;
 use division::internal::divide;
-use envelope::announcement::Side;
 use marginal::MarginalRate;
 use offer::Offer;
 use places::Amount;

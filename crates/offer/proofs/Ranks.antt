@@ -5,8 +5,8 @@ use Prim.Native.Nat.{ℕ, _+_}
 use native.Mathlib.Omega.{arith}
 use lib.Dec.{ltb}
 use borrow.Author.Tests.{ltb-true, ltb-false, lt-ltb, le-ltb, eqb-true}
-use Rattle.envelope.specs.declared.announcement.Side.{Side}
-use Rattle.envelope.specs.declared.announcement.Side.the-variants.{La, Lp}
+use Rattle.announcement.specs.declared.Side.{Side}
+use Rattle.announcement.specs.declared.Side.the-variants.{La, Lp}
 use Rattle.rules.specs.Allotment.{betterRate}
 use Rattle.offer.specs.Viewed.{ranks}
 

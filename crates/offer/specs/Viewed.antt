@@ -4,8 +4,8 @@ use mathlib.Core.Bool.{Bool}
 use mathlib.Core.List.{List}
 use Prim.Native.Nat.{ℕ, _+_}
 use lib.Dec.{eqb}
-use Rattle.envelope.specs.declared.announcement.Side.{Side}
-use Rattle.envelope.specs.declared.announcement.Side.the-variants.{La, Lp}
+use Rattle.announcement.specs.declared.Side.{Side}
+use Rattle.announcement.specs.declared.Side.the-variants.{La, Lp}
 use Rattle.rules.specs.Allotment as rules
 use Rattle.offer.specs.declared.Offer.{Offer}
 use Rattle.offer.specs.declared.Totals.{Totals}

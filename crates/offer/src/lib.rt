@@ -1,10 +1,10 @@
 // An offer, which of the bids in a book are in, and their totals by rate.
 pub mod internal;
 
+use announcement::Side;
 use bids::Bid;
 use bids::is_filled;
 use bids::less;
-use envelope::announcement::Side;
 use places::Amount;
 use places::Rate;
 ghost use mathlib.Core.Path.{_≡_};

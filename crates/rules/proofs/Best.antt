@@ -6,7 +6,7 @@ use mathlib.Core.Bool.{Bool, true, false, cond}
 use mathlib.Core.Option.{Option, none, some}
 use mathlib.Core.List.{List, [], _∷_, List·Memᴰ, List·Memᴰ·head, List·Memᴰ·tail, List·Memᴰ·cases-cons, List·Memᴰ·not-nil}
 use Prim.Native.Nat.{ℕ}
-use Rattle.envelope.specs.declared.announcement.Side.{Side}
+use Rattle.announcement.specs.declared.Side.{Side}
 use Rattle.rules.specs.Allotment.{Bid, Offer, betterRate, keep, reaches, bestOf, bestRate, marginalRate}
 use Rattle.rules.proofs.Rates.{not-itself, not-both, same-rate, not-better}
 

@@ -7,8 +7,8 @@ use Prim.Native.Nat.{ℕ, zero, suc, _+_, _≤_}
 use native.Mathlib.Omega.{arith}
 use lib.Dec.{ltb}
 use borrow.Author.Tests.{ltb-true, ltb-false, lt-ltb, le-ltb}
-use Rattle.envelope.specs.declared.announcement.Side.{Side}
-use Rattle.envelope.specs.declared.announcement.Side.the-variants.{La, Lp}
+use Rattle.announcement.specs.declared.Side.{Side}
+use Rattle.announcement.specs.declared.Side.the-variants.{La, Lp}
 use Rattle.rules.specs.Allotment.{Bid, Offer, betterRate, isIn, isBetter}
 use Rattle.rules.proofs.Kept.{Agree}
 use Rattle.rules.proofs.Rates.{notWorse}

@@ -5,8 +5,8 @@ use Rattle.digits.specs.Decimal.{allDigits, numberFrom, digitsOf, digits}
 use Rattle.calendar.specs.Calendar.{daysIn}
 use Rattle.places.specs.Bids.{isPlace, placeOf, placesIn, placeText, placesText, placesFit}
 use Rattle.envelope.specs.Refusals.{firstHolding}
-use Rattle.envelope.specs.Announcement.{layout6G0, lookUp, tenderTypeOf, joined, numbersIn, characteristicsOf, referencesOf, announcementOf}
 use Rattle.envelope.specs.Application.{layout6G1, fieldsOf, isIdentifier, numbersFit, textsFit, written, write}
+use Rattle.announcement.specs.Announcement.{layout6G0, lookUp, tenderTypeOf, joined, numbersIn, characteristicsOf, referencesOf, announcementOf}
 use Rattle.rules.specs.Opening.{any, notAnnouncement, otherOrigin, wellFormed, malformedAnnouncement, unknownType, impossible, impossibleNumbers, datesDisordered, rising, badCodes, openingRefused, termsOf}
 use Rattle.rules.specs.Receiving.{messagePlaces, messageBids, when, senderErrors, dateErrors, gap, fineRate, smallBid, unevenBid, overMaximum, bidErrors, placeErrors, errors, isEmpty, isSound, submission, cancels, newEntry, newBook, isAfter, isFrom, takes, hold, returnedErrors}
 use Rattle.rules.specs.Allotment.{filled, betterRate, isIn, isBetter, isEqual, keep, total, totalBetter, totalEqual, binaryLengthWithin, binaryLength, firstDigits, divisionAt, division, share, shares, centsLeft, cent, award, awardsFrom, awards, reaches, bestOf, bestRate, marginalRate}

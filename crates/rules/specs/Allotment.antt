@@ -5,8 +5,8 @@ use mathlib.Core.Option.{Option, none, some}
 use Prim.Native.Nat.{ℕ, zero, suc, _+_, _-_, _*_, _/_, _%_, _^_}
 use lib.Dec.{leb, ltb, eqb}
 use lib.ListN.{length}
-use Rattle.envelope.specs.declared.announcement.Side.{Side}
-use Rattle.envelope.specs.declared.announcement.Side.the-variants.{La, Lp}
+use Rattle.announcement.specs.declared.Side.{Side}
+use Rattle.announcement.specs.declared.Side.the-variants.{La, Lp}
 
 -- a place of a message or of the book
 pub record Bid : Type 0 where

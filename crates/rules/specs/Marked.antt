@@ -6,8 +6,8 @@ use Prim.Native.Nat.{ℕ}
 use lib.ListN.{length, replicate, getD, take}
 use Rattle.calendar.specs.Calendar.{validDate}
 use Rattle.texts.specs.Texts.{sameText}
-use Rattle.envelope.specs.declared.announcement.Side.{Side}
-use Rattle.envelope.specs.declared.announcement.Side.the-variants.{La, Lp}
+use Rattle.announcement.specs.declared.Side.{Side}
+use Rattle.announcement.specs.declared.Side.the-variants.{La, Lp}
 use Rattle.rules.specs.Allotment.{Bid, filled, isIn, keep, division, awards, marginalRate}
 use Rattle.rules.specs.Opening.{openingRefused, offerOf}
 use Rattle.rules.specs.Receiving.{Reception, Error, errors, submission, cancels}

@@ -8,11 +8,11 @@ use Rattle.layout.specs.Fields.{encoded}
 use Rattle.places.specs.declared.Rate.{Rate}
 use Rattle.places.specs.declared.Amount.{Amount}
 use Rattle.texts.specs.Texts.{ascii}
-use Rattle.envelope.specs.declared.announcement.Field.{Field as AnnouncementField}
 use Rattle.envelope.specs.declared.application.Field.{Field as ApplicationField}
 use Rattle.envelope.specs.declared.application.Application.{Application}
-use Rattle.envelope.specs.Announcement.{layout6G0, position as announcementPosition}
 use Rattle.envelope.specs.Application.{layout6G1, position as applicationPosition, texts, written}
+use Rattle.announcement.specs.declared.Field.{Field as AnnouncementField}
+use Rattle.announcement.specs.Announcement.{layout6G0, position as announcementPosition}
 use Rattle.rules.specs.Opening.{Terms, termsOf}
 use Rattle.rules.specs.Receiving.{Reception}
 

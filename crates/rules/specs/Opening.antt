@@ -11,15 +11,15 @@ use Rattle.digits.specs.declared.Digits.the-variants.{Number, None}
 use Rattle.digits.specs.Decimal.{isNumber, numberIn}
 use Rattle.layout.specs.Fields.{readable}
 use Rattle.texts.specs.Texts.{sameText, ascii}
-use Rattle.envelope.specs.declared.announcement.Field.the-variants.{MessageType, Sender, Identifier}
-use Rattle.envelope.specs.declared.announcement.Side.{Side}
-use Rattle.envelope.specs.declared.announcement.Side.the-variants.{La}
-use Rattle.envelope.specs.declared.announcement.Kind.{Kind}
-use Rattle.envelope.specs.declared.announcement.Kind.the-variants.{Tender, Unknown}
-use Rattle.envelope.specs.declared.announcement.Characteristics.{Characteristics}
-use Rattle.envelope.specs.declared.announcement.Announcement.{Announcement}
 use Rattle.envelope.specs.Refusals.{firstHolding}
-use Rattle.envelope.specs.Announcement.{layout6G0, bytesOf, announcementOf, datesOrdered}
+use Rattle.announcement.specs.declared.Field.the-variants.{MessageType, Sender, Identifier}
+use Rattle.announcement.specs.declared.Side.{Side}
+use Rattle.announcement.specs.declared.Side.the-variants.{La}
+use Rattle.announcement.specs.declared.Kind.{Kind}
+use Rattle.announcement.specs.declared.Kind.the-variants.{Tender, Unknown}
+use Rattle.announcement.specs.declared.Characteristics.{Characteristics}
+use Rattle.announcement.specs.declared.Announcement.{Announcement}
+use Rattle.announcement.specs.Announcement.{layout6G0, bytesOf, announcementOf, datesOrdered}
 use Rattle.rules.specs.Allotment.{Offer}
 
 -- what a tender keeps of its announcement, and the admitted codes

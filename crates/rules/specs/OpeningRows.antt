@@ -4,8 +4,8 @@ use mathlib.Core.List.{List, [], _∷_, _++_}
 use Prim.Native.Nat.{ℕ}
 use lib.ListN.{drop, replicate, take}
 use Rattle.texts.specs.Texts.{ascii}
-use Rattle.envelope.specs.declared.announcement.Field.{Field}
-use Rattle.envelope.specs.declared.announcement.Field.the-variants.{MessageType, Sender, Recipient, Cro, Date, Time, Identifier, TenderType, SpotDate, ForwardDate, Cutoff}
+use Rattle.announcement.specs.declared.Field.{Field}
+use Rattle.announcement.specs.declared.Field.the-variants.{MessageType, Sender, Recipient, Cro, Date, Time, Identifier, TenderType, SpotDate, ForwardDate, Cutoff}
 use Rattle.rules.specs.Allotment.{isIn}
 use Rattle.rules.specs.Opening.{Terms, openingRefused, termsOf, offerOf}
 use Rattle.rules.specs.Calls.{openTender}

@@ -6,9 +6,9 @@ use mathlib.Core.List.{List}
 use mathlib.Core.Option.{none, some}
 use Prim.Native.Nat.{ℕ}
 use Rattle.calendar.specs.Calendar.{validDate}
-use Rattle.envelope.specs.declared.announcement.Announcement.{Announcement}
 use Rattle.layout.specs.Fields.{readable}
-use Rattle.envelope.specs.Announcement.{layout6G0, announcementOf, reading}
+use Rattle.announcement.specs.declared.Announcement.{Announcement}
+use Rattle.announcement.specs.Announcement.{layout6G0, announcementOf, reading}
 use Rattle.rules.specs.Opening.{isDate, isTime, wellFormed, notAnnouncement, openingRefused}
 use Rattle.rules.proofs.Opening.{next-condition}
 use Rattle.terms.specs.declared.OpenAnswer.{OpenAnswer}

@@ -7,10 +7,10 @@ use Prim.Native.Nat.{ℕ, _+_}
 use lib.Dec.{leb}
 use Rattle.calendar.specs.Calendar.{validDate}
 use Rattle.digits.specs.Decimal.{isNumber, numberIn}
-use Rattle.envelope.specs.declared.announcement.References.{References}
-use Rattle.envelope.specs.declared.announcement.Announcement.{Announcement}
-use Rattle.envelope.specs.Announcement.{datesOrdered}
 use Rattle.envelope.specs.Refusals.{unlessRefused}
+use Rattle.announcement.specs.declared.References.{References}
+use Rattle.announcement.specs.declared.Announcement.{Announcement}
+use Rattle.announcement.specs.Announcement.{datesOrdered}
 use Rattle.rules.specs.Opening as rules
 use Rattle.rules.specs.Opening.{isDate, isTime, openingRefused, termsOf, noTerms}
 use Rattle.terms.specs.declared.Terms as declared

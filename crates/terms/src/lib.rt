@@ -1,20 +1,20 @@
 // The terms of a tender: what opening refuses of an announcement and an admitted list, and what it
 // keeps of them.
+use announcement::Announcement;
+use announcement::Characteristics;
+use announcement::Field;
+use announcement::Kind;
+use announcement::Reading;
+use announcement::References;
+use announcement::Side;
+use announcement::dates_ordered;
+use announcement::internal::bytes_in;
+use announcement::read;
 use calendar::valid_date;
 use calendar::valid_time;
 use digits::Digits;
 use digits::has_number;
 use digits::number_of;
-use envelope::announcement::Announcement;
-use envelope::announcement::Characteristics;
-use envelope::announcement::Field;
-use envelope::announcement::Kind;
-use envelope::announcement::Reading;
-use envelope::announcement::References;
-use envelope::announcement::Side;
-use envelope::announcement::dates_ordered;
-use envelope::announcement::read;
-use envelope::internal::bytes_in_6g0;
 use places::Amount;
 use places::Rate;
 use texts::same;
@@ -24,8 +24,8 @@ ghost use mathlib.Core.List.{List, []};
 ghost use Prim.Native.Nat.{ℕ, _<_};
 ghost use lib.ListN.{length};
 ghost use Rattle.layout.specs.Fields.{readable};
-ghost use Rattle.envelope.specs.Announcement.{layout6G0, announcementOf, reading};
 ghost use Rattle.envelope.specs.Refusals.{orZero};
+ghost use Rattle.announcement.specs.Announcement.{layout6G0, announcementOf, reading};
 ghost use Rattle.rules.specs.Opening.{isDate, isTime, wellFormed, otherOrigin, isUnknown, impossible, badCodes, openingRefused, sideOf, termsOf, noTerms};
 ghost use Rattle.terms.specs.Viewed.{referencesFormed, datesFormed, risesFrom, datesInOrder, openRefusal, isOpened, viewed, OpensTerms};
 
@@ -115,8 +115,7 @@ fn other_origin(m: &[u8]) -> bool
     requires { ⌜ readable layout6G0 (now m) ≡ true ⌝ }
     ensures { λ r. ⌜ r ≡ otherOrigin (now (m .entry)) ⌝ }
 {
-    !(same(bytes_in_6g0(m, Field::MessageType), b"6G0")
-        & same(bytes_in_6g0(m, Field::Sender), b"01000"))
+    !(same(bytes_in(m, Field::MessageType), b"6G0") & same(bytes_in(m, Field::Sender), b"01000"))
 }
 
 fn is_unknown(k: Kind) -> bool
@@ -258,7 +257,7 @@ fn terms_of(m: &[u8], a: Announcement) -> Terms
     let maximum = c.maximum;
     let allocation = c.allocation;
     let limit = c.limit;
-    let identifier = eleven(bytes_in_6g0(m, Field::Identifier));
+    let identifier = eleven(bytes_in(m, Field::Identifier));
     Terms {
         identifier,
         side,

@@ -4,7 +4,7 @@ use mathlib.Core.Path.{refl, ap, _∙_}
 use Prim.Native.Nat.{_+_, _-_}
 use native.Mathlib.Omega.{arith}
 use borrow.Author.Tests.{eq-eqb}
-use Rattle.envelope.specs.declared.announcement.Side.{Side}
+use Rattle.announcement.specs.declared.Side.{Side}
 use Rattle.offer.specs.Viewed.{ranks}
 use Rattle.offer.proofs.rank.Statement.{statement}
 use Rattle.offer.proofs.rank.Tie as tie

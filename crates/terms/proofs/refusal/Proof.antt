@@ -5,9 +5,9 @@ use mathlib.Core.Path.{_≡_, sym, ap, _∙_}
 use mathlib.Core.Bool.{Bool, true, false, not}
 use denote.Ref.{now}
 use Rattle.layout.specs.Fields.{readable}
-use Rattle.envelope.specs.declared.announcement.Announcement.{Announcement}
 use Rattle.envelope.specs.Refusals.{firstHolding}
-use Rattle.envelope.specs.Announcement.{layout6G0, announcementOf}
+use Rattle.announcement.specs.declared.Announcement.{Announcement}
+use Rattle.announcement.specs.Announcement.{layout6G0, announcementOf}
 use Rattle.rules.specs.Opening.{notAnnouncement, otherOrigin, wellFormed, malformedAnnouncement, isUnknown, unknownType, impossible, impossibleNumbers, datesDisordered, openingRefused}
 use Rattle.terms.specs.Viewed.{datesInOrder}
 use Rattle.terms.proofs.Forming.{read-readable, read-announcement}

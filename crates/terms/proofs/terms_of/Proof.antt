@@ -2,7 +2,7 @@
 use borrow.Author.Needs.{needs}
 use mathlib.Core.Path.{ap, _∙_}
 use Rattle.digits.specs.Decimal.{numberIn}
-use Rattle.envelope.specs.declared.announcement.Announcement.{Announcement}
+use Rattle.announcement.specs.declared.Announcement.{Announcement}
 use Rattle.rules.specs.Opening.{sideOf, termsOf}
 use Rattle.terms.proofs.terms_of.Statement.{statement}
 use Rattle.terms.proofs.terms_of.Tie as tie
@@ -10,8 +10,8 @@ use Rattle.terms.proofs.terms_of.Tie as tie
 side-of-requires : tie.Need-side-of-requires
 side-of-requires c κs = search needs
 
-bytes-in-6g0-requires : tie.Need-bytes-in-6g0-requires
-bytes-in-6g0-requires c κs = search needs
+bytes-in-requires : tie.Need-bytes-in-requires
+bytes-in-requires c κs = search needs
 
 eleven-requires : tie.Need-eleven-requires
 eleven-requires c κs = search needs
@@ -23,7 +23,7 @@ returns : tie.Need-returns
 unfolding termsOf
 returns c =
     let says = c .before .before .before .before .before .before .before .before .before .before .before .before .pre .1 in
-    let text = c .before .eleven .ensures ∙ c .before .before .bytes-in-6g0 .ensures .0 in
+    let text = c .before .eleven .ensures ∙ c .before .before .bytes-in .ensures .0 in
     let side = c .before .before .before .before .before .before .before .before .before .before .side-of .ensures ∙ ap (λ (a : Announcement). sideOf (a .kind)) says in
     let cutoff = c .number-of .ensures ∙ ap (λ (a : Announcement). numberIn (a .cutoff)) says in
     λ codes i.
@@ -47,7 +47,7 @@ terms-of-spec =
     tie.close
     (tie.spec
     side-of-requires
-    bytes-in-6g0-requires
+    bytes-in-requires
     eleven-requires
     number-of-requires
     returns)

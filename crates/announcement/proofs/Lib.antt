@@ -1,0 +1,2 @@
+pub mod Fields6G0
+pub mod Parts
