@@ -1,2 +1,3 @@
 pub mod Fields6G0
 pub mod Parts
+pub mod TenderTypes

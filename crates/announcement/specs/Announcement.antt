@@ -1,6 +1,8 @@
 -- The 6G0 (document 01, 'Envelope'). Assumes nothing.
+use mathlib.Core.Path.{_≡_}
 use mathlib.Core.Bool.{Bool, true, false, cond, not, _&&_}
 use mathlib.Core.List.{List, [], _∷_}
+use mathlib.Core.Option.{Option, none, some}
 use Prim.Native.Nat.{ℕ, _+_}
 use lib.Dec.{eqb}
 use lib.ListN.{length, take, drop, getD}
@@ -13,6 +15,7 @@ use Rattle.texts.specs.Texts.{sameText, ascii}
 use Rattle.envelope.specs.Application.{one, isIdentifier}
 use Rattle.announcement.specs.declared.Field.{Field}
 use Rattle.announcement.specs.declared.Field.the-variants.{MessageType, Sender, Recipient, Cro, Date, Time, Identifier, TenderType, Characteristics, SpotDate, ForwardDate, Cutoff}
+use Rattle.announcement.specs.declared.Side.{Side}
 use Rattle.announcement.specs.declared.Side.the-variants.{La, Lp}
 use Rattle.announcement.specs.declared.Kind.{Kind}
 use Rattle.announcement.specs.declared.Kind.the-variants.{Tender, Unknown}
@@ -74,22 +77,45 @@ bytesOf f m = content (position f) m
 unfoldable pub fieldBytes : Field → List ℕ → List ℕ
 fieldBytes f m = cond (readable layout6G0 m) (bytesOf f m) []
 
+-- 'LA or LP': the side that two letters name
+abbrev pub sideNamed : List ℕ → Option Side
+sideNamed s = cond (sameText s (ascii "LA")) (some La) (cond (sameText s (ascii "LP")) (some Lp) none)
+
+-- 'Y or N': what the letter says
+abbrev pub choiceNamed : List ℕ → Option Bool
+choiceNamed s = cond (sameText s (ascii "Y")) (some true) (cond (sameText s (ascii "N")) (some false) none)
+
+-- a tender has both
+abbrev pub tenderNamed : Option Side → Option Bool → Kind
+tenderNamed none choice = Unknown
+tenderNamed (some side) none = Unknown
+tenderNamed (some side) (some choice) = Tender side choice
+
+-- '`NC/FD/` .. `/R/` .. `/VR/MR`' stand in their places
+abbrev pub fixedParts : List ℕ → Bool
+fixedParts s = sameText (take 6 s) (ascii "NC/FD/") && sameText (take 3 (drop 8 s)) (ascii "/R/") && sameText (take 6 (drop 12 s)) (ascii "/VR/MR")
+
 -- 'The type is `NC/FD/` then LA or LP, `/R/`, Y or N, `/VR/MR`'
-abbrev pub tenderTypes : List (List ℕ × Kind)
-tenderTypes =
-    (ascii "NC/FD/LA/R/Y/VR/MR", Tender La true)
-    ∷ (ascii "NC/FD/LA/R/N/VR/MR", Tender La false)
-    ∷ (ascii "NC/FD/LP/R/Y/VR/MR", Tender Lp true)
-    ∷ (ascii "NC/FD/LP/R/N/VR/MR", Tender Lp false)
-    ∷ []
-
--- the kind that a table has for a text
-unfoldable pub lookUp : List (List ℕ × Kind) → List ℕ → Kind
-lookUp [] s = Unknown
-lookUp (entry ∷ table) s = cond (sameText s (entry .0)) (entry .1) (lookUp table s)
-
 unfoldable pub tenderTypeOf : List ℕ → Kind
-tenderTypeOf s = lookUp tenderTypes s
+tenderTypeOf s =
+    cond
+    (eqb (length s) 18 && fixedParts s)
+    (tenderNamed (sideNamed (take 2 (drop 6 s))) (choiceNamed (take 1 (drop 11 s))))
+    Unknown
+
+-- the types in full
+abbrev pub typeText : Side → Bool → List ℕ
+typeText La true = ascii "NC/FD/LA/R/Y/VR/MR"
+typeText La false = ascii "NC/FD/LA/R/N/VR/MR"
+typeText Lp true = ascii "NC/FD/LP/R/Y/VR/MR"
+typeText Lp false = ascii "NC/FD/LP/R/N/VR/MR"
+
+-- each of these four texts announces its tender, and no other text announces one
+abbrev pub FourTypes : Type 0
+FourTypes =
+    (side : Side) (choice : Bool)
+    → (tenderTypeOf (typeText side choice) ≡ Tender side choice)
+    × ((s : List ℕ) → tenderTypeOf s ≡ Tender side choice → s ≡ typeText side choice)
 
 -- 'The characteristics, joined by slashes: execution date (8), most bids (2), amount offered, minimum bid, increment, maximum total,
 -- minimum allocation (15 each), limit rate (8)'

@@ -18,11 +18,12 @@ use words::internal::number_at;
 ghost use mathlib.Core.Path.{_≡_};
 ghost use mathlib.Core.Bool.{true, false};
 ghost use mathlib.Core.List.{[]};
+ghost use mathlib.Core.Option.{some};
 ghost use Prim.Native.Nat.{_<_};
 ghost use lib.ListN.{length};
 ghost use Rattle.digits.specs.Decimal.{numberIn};
 ghost use Rattle.layout.specs.Fields.{readable};
-ghost use Rattle.announcement.specs.Announcement.{layout6G0, fieldBytes, tenderTypeOf, characteristicsFrom, characteristicsOf, referencesOf, announcementOf, noAnnouncement, reading, datesOrdered};
+ghost use Rattle.announcement.specs.Announcement.{layout6G0, fieldBytes, sideNamed, choiceNamed, tenderNamed, fixedParts, tenderTypeOf, characteristicsFrom, characteristicsOf, referencesOf, announcementOf, noAnnouncement, reading, datesOrdered};
 ghost use Rattle.announcement.specs.Parts.{numbersAt, valuesOf, allNumbers, slashesStand};
 
 // The fields of a 6G0, in their order.
@@ -124,21 +125,49 @@ pub fn bytes(m: &[u8], f: Field) -> &[u8]
     contents_if(is_6g0(m), m, position_of(f))
 }
 
-// The kind of tender that a text announces.
+// The kind of tender that a text announces. Its length is tested first, then its parts.
 pub fn kind_of(s: &[u8]) -> Kind
     ensures { λ r. ⌜ r ≡ tenderTypeOf (now (s .entry)) ⌝ }
 {
-    if same(s, b"NC/FD/LA/R/Y/VR/MR") {
-        return Kind::Tender(Side::La, true);
+    if s.len() != 18 {
+        return Kind::Unknown;
     }
-    if same(s, b"NC/FD/LA/R/N/VR/MR") {
-        return Kind::Tender(Side::La, false);
+    if !fixed_parts_stand(s) {
+        return Kind::Unknown;
     }
-    if same(s, b"NC/FD/LP/R/Y/VR/MR") {
-        return Kind::Tender(Side::Lp, true);
+    tender_named(&s[6..8], &s[11..12])
+}
+
+// Whether the parts that every type has stand in their places.
+fn fixed_parts_stand(s: &[u8]) -> bool
+    requires { ⌜ length (now s) ≡ 18 ⌝ }
+    ensures { λ r. ⌜ r ≡ fixedParts (now (s .entry)) ⌝ }
+{
+    same(&s[0..6], b"NC/FD/") & same(&s[8..11], b"/R/") & same(&s[12..18], b"/VR/MR")
+}
+
+// The tender whose side and choice these letters name.
+fn tender_named(side: &[u8], choice: &[u8]) -> Kind
+    ensures { λ r. ⌜ r ≡ tenderNamed (sideNamed (now (side .entry))) (choiceNamed (now (choice .entry))) ⌝ }
+{
+    if same(side, b"LA") {
+        return tender_on(Side::La, choice);
     }
-    if same(s, b"NC/FD/LP/R/N/VR/MR") {
-        return Kind::Tender(Side::Lp, false);
+    if same(side, b"LP") {
+        return tender_on(Side::Lp, choice);
+    }
+    Kind::Unknown
+}
+
+// The tender on a side whose choice this letter names.
+fn tender_on(side: Side, choice: &[u8]) -> Kind
+    ensures { λ r. ⌜ r ≡ tenderNamed (some side) (choiceNamed (now (choice .entry))) ⌝ }
+{
+    if same(choice, b"Y") {
+        return Kind::Tender(side, true);
+    }
+    if same(choice, b"N") {
+        return Kind::Tender(side, false);
     }
     Kind::Unknown
 }

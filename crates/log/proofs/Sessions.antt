@@ -6,7 +6,7 @@ use Rattle.calendar.specs.Calendar.{daysIn}
 use Rattle.places.specs.Bids.{isPlace, placeOf, placesIn, placeText, placesText}
 use Rattle.envelope.specs.Refusals.{firstHolding}
 use Rattle.envelope.specs.Application.{layout6G1, fieldsOf, isIdentifier, written}
-use Rattle.announcement.specs.Announcement.{layout6G0, lookUp, tenderTypeOf, joined, numbersIn, characteristicsOf, referencesOf, announcementOf}
+use Rattle.announcement.specs.Announcement.{layout6G0, tenderTypeOf, joined, numbersIn, characteristicsOf, referencesOf, announcementOf}
 use Rattle.rules.specs.Opening.{any, notAnnouncement, otherOrigin, wellFormed, malformedAnnouncement, unknownType, impossible, impossibleNumbers, datesDisordered, rising, badCodes, openingRefused, termsOf}
 use Rattle.rules.specs.Receiving.{messagePlaces, messageBids, when, senderErrors, dateErrors, gap, fineRate, smallBid, unevenBid, overMaximum, bidErrors, placeErrors, errors, isEmpty, isSound, submission, newEntry, newBook, isAfter, isFrom, takes, hold, returnedErrors}
 use Rattle.rules.specs.Allotment.{filled, betterRate, isIn, isBetter, isEqual, keep, total, totalBetter, totalEqual, binaryLengthWithin, binaryLength, firstDigits, divisionAt, division, share, shares, centsLeft, cent, award, awardsFrom, awards, reaches, bestOf, bestRate, marginalRate}
@@ -18,5 +18,5 @@ use Rattle.log.specs.Steps.{groups, admittedIn, admissionStep, announcem
 use Rattle.log.specs.Sessions.{receivedAt, session, printed, allPrinted, refusedWith, openingFields, applicationBy, confirmedAs, sessions, SessionsPrinted}
 
 pub sessions-printed : SessionsPrinted
-unfolding sameText field oneOf starts readable offset content encoded allDigits numberFrom digitsOf digits daysIn isPlace placeOf placesIn placeText placesText firstHolding layout6G0 lookUp tenderTypeOf joined numbersIn characteristicsOf referencesOf announcementOf layout6G1 fieldsOf isIdentifier written any notAnnouncement otherOrigin wellFormed malformedAnnouncement unknownType impossible impossibleNumbers datesDisordered rising badCodes openingRefused termsOf messagePlaces messageBids when senderErrors dateErrors gap fineRate smallBid unevenBid overMaximum bidErrors placeErrors errors isEmpty isSound submission newEntry newBook isAfter isFrom takes hold returnedErrors filled betterRate isIn isBetter isEqual keep total totalBetter totalEqual binaryLengthWithin binaryLength firstDigits divisionAt division share shares centsLeft cent award awardsFrom awards reaches bestOf bestRate marginalRate openTender isRevoked isOver clockInvalid spaceShort bidsInBook receivingRefused reply bookAfter answerTo answerWith answerUnless receive places640 allotment altered bySlashes characteristicsWith announcementWith announcement ten numbers message allot allottingRefused beforeCutOff bidsExceed close closingRefused confirmation errorText errorTexts isAnnounced isOpen shown returnedMessage revoke revokingRefused confirmedLine returnedLine refusedLine awardLine placeLines awardLines groups admittedIn admissionStep announcementStep dateOf timeOf receptionIn answerLine receptionStep closingStep revocationStep allottingStep step holdsField walked logOf receivedAt session printed allPrinted refusedWith openingFields applicationBy confirmedAs sessions
+unfolding sameText field oneOf starts readable offset content encoded allDigits numberFrom digitsOf digits daysIn isPlace placeOf placesIn placeText placesText firstHolding layout6G0 tenderTypeOf joined numbersIn characteristicsOf referencesOf announcementOf layout6G1 fieldsOf isIdentifier written any notAnnouncement otherOrigin wellFormed malformedAnnouncement unknownType impossible impossibleNumbers datesDisordered rising badCodes openingRefused termsOf messagePlaces messageBids when senderErrors dateErrors gap fineRate smallBid unevenBid overMaximum bidErrors placeErrors errors isEmpty isSound submission newEntry newBook isAfter isFrom takes hold returnedErrors filled betterRate isIn isBetter isEqual keep total totalBetter totalEqual binaryLengthWithin binaryLength firstDigits divisionAt division share shares centsLeft cent award awardsFrom awards reaches bestOf bestRate marginalRate openTender isRevoked isOver clockInvalid spaceShort bidsInBook receivingRefused reply bookAfter answerTo answerWith answerUnless receive places640 allotment altered bySlashes characteristicsWith announcementWith announcement ten numbers message allot allottingRefused beforeCutOff bidsExceed close closingRefused confirmation errorText errorTexts isAnnounced isOpen shown returnedMessage revoke revokingRefused confirmedLine returnedLine refusedLine awardLine placeLines awardLines groups admittedIn admissionStep announcementStep dateOf timeOf receptionIn answerLine receptionStep closingStep revocationStep allottingStep step holdsField walked logOf receivedAt session printed allPrinted refusedWith openingFields applicationBy confirmedAs sessions
 sessions-printed = tt

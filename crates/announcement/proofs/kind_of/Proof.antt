@@ -1,68 +1,61 @@
 -- `announcement::kind_of` meets its contract. Assumes nothing.
 use borrow.Author.Needs.{needs}
+use borrow.Author.Tests.{eq-eqb, ne-eqb, not-true, not-false}
 use mathlib.Core.Path.{sym, _∙_}
-use Rattle.announcement.specs.Announcement.{lookUp, tenderTypeOf}
+use denote.Ref.{now}
+use lib.ListN.{length}
+use Rattle.announcement.specs.Announcement.{tenderTypeOf}
 use Rattle.announcement.proofs.kind_of.Statement.{statement}
 use Rattle.announcement.proofs.kind_of.Tie as tie
 
-slice-aggregate-same : tie.Need-slice-aggregate-same
-slice-aggregate-same c = search needs
-
-same-requires : tie.Need-same-requires
-same-requires c κs = search needs
-
 returns : tie.Need-returns
-unfolding tenderTypeOf lookUp
-returns c = rw (sym (c .before .same .ensures) ∙ c .if1 .taken)
+unfolding tenderTypeOf
+returns c = rw (ne-eqb (length (now (c .before .before .args .s))) 18 (c .if1 .taken))
 
-slice-aggregate-same-2 : tie.Need-slice-aggregate-same-2
-slice-aggregate-same-2 c = search needs
-
-same-requires-2 : tie.Need-same-requires-2
-same-requires-2 c κs = search needs
+fixed-parts-stand-requires : tie.Need-fixed-parts-stand-requires
+fixed-parts-stand-requires c κs = search needs
 
 returns-2 : tie.Need-returns-2
-unfolding tenderTypeOf lookUp
-returns-2 c = rw (sym (c .before .before .before .before .same .ensures) ∙ c .before .before .before .if1 .left, sym (c .before .same2 .ensures) ∙ c .if2 .taken)
+unfolding tenderTypeOf
+returns-2 c = rw (eq-eqb (length (now (c .before .before .before .before .args .s))) 18 (c .before .before .if1 .left), sym (c .before .fixed-parts-stand .ensures) ∙ not-true _ (c .if2 .taken))
 
-slice-aggregate-same-3 : tie.Need-slice-aggregate-same-3
-slice-aggregate-same-3 c = search needs
+sub-tender-named : tie.Need-sub-tender-named
+sub-tender-named c = search needs
 
-same-requires-3 : tie.Need-same-requires-3
-same-requires-3 c κs = search needs
+part-tender-named-start : tie.Need-part-tender-named-start
+part-tender-named-start c = search needs
+
+part-tender-named-end : tie.Need-part-tender-named-end
+part-tender-named-end c = search needs
+
+sub-tender-named-2 : tie.Need-sub-tender-named-2
+sub-tender-named-2 c = search needs
+
+part-tender-named-start-2 : tie.Need-part-tender-named-start-2
+part-tender-named-start-2 c = search needs
+
+part-tender-named-end-2 : tie.Need-part-tender-named-end-2
+part-tender-named-end-2 c = search needs
+
+tender-named-requires : tie.Need-tender-named-requires
+tender-named-requires c κs = search needs
 
 returns-3 : tie.Need-returns-3
-unfolding tenderTypeOf lookUp
-returns-3 c = rw (sym (c .before .before .before .before .before .before .before .same .ensures) ∙ c .before .before .before .before .before .before .if1 .left, sym (c .before .before .before .before .same2 .ensures) ∙ c .before .before .before .if2 .left, sym (c .before .same3 .ensures) ∙ c .if3 .taken)
-
-slice-aggregate-same-4 : tie.Need-slice-aggregate-same-4
-slice-aggregate-same-4 c = search needs
-
-same-requires-4 : tie.Need-same-requires-4
-same-requires-4 c κs = search needs
-
-returns-4 : tie.Need-returns-4
-unfolding tenderTypeOf lookUp
-returns-4 c = rw (sym (c .before .before .before .before .before .before .before .before .before .before .same .ensures) ∙ c .before .before .before .before .before .before .before .before .before .if1 .left, sym (c .before .before .before .before .before .before .before .same2 .ensures) ∙ c .before .before .before .before .before .before .if2 .left, sym (c .before .before .before .before .same3 .ensures) ∙ c .before .before .before .if3 .left, sym (c .before .same4 .ensures) ∙ c .if4 .taken)
-
-returns-5 : tie.Need-returns-5
-unfolding tenderTypeOf lookUp
-returns-5 c = rw (sym (c .before .before .before .before .before .before .before .before .before .before .same .ensures) ∙ c .before .before .before .before .before .before .before .before .before .if1 .left, sym (c .before .before .before .before .before .before .before .same2 .ensures) ∙ c .before .before .before .before .before .before .if2 .left, sym (c .before .before .before .before .same3 .ensures) ∙ c .before .before .before .if3 .left, sym (c .before .same4 .ensures) ∙ c .if4 .left)
+unfolding tenderTypeOf
+returns-3 c = rw (eq-eqb (length (now (c .before .before .before .before .before .before .before .args .s))) 18 (c .before .before .before .before .before .if1 .left), sym (c .before .before .before .before .fixed-parts-stand .ensures) ∙ not-false _ (c .before .before .before .if2 .left)) (c .tender-named .ensures)
 
 pub kind-of-spec : {M : Type 1} → statement M
 kind-of-spec =
     tie.close
     (tie.spec
-    slice-aggregate-same
-    same-requires
     returns
-    slice-aggregate-same-2
-    same-requires-2
+    fixed-parts-stand-requires
     returns-2
-    slice-aggregate-same-3
-    same-requires-3
-    returns-3
-    slice-aggregate-same-4
-    same-requires-4
-    returns-4
-    returns-5)
+    sub-tender-named
+    part-tender-named-start
+    part-tender-named-end
+    sub-tender-named-2
+    part-tender-named-start-2
+    part-tender-named-end-2
+    tender-named-requires
+    returns-3)
