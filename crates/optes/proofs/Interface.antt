@@ -1,134 +1,30 @@
--- Laws of what a host asks. Assumes nothing.
-use mathlib.Core.Path.{_≡_, refl, sym, ap, _∙_}
-use mathlib.Core.Bool.{true, false, _&&_, false≢true}
-use mathlib.Core.List.{List, map}
-use Prim.Native.Nat.{ℕ, zero, suc, _*_, _≤_, _<_}
+-- Laws of what the call for all numbers gives. Assumes nothing.
+use mathlib.Core.Path.{_≡_, _∙_}
+use mathlib.Core.Bool.{true, false}
+use mathlib.Core.List.{List, _++_}
+use mathlib.Core.Option.{none, some}
+use Prim.Native.Nat.{ℕ, _≤_}
 use native.Mathlib.Omega.{arith}
-use lib.Dec.{leb, ltb}
-use lib.ListN.{length, take, drop, getD, replicate, List·getD-map, List·getD-eq-default}
-use borrow.Author.Tests.{ltb-true}
-use Rattle.laws.proofs.Tests.{and-left, and-right}
-use Rattle.digits.specs.declared.Digits.the-variants.{None}
-use Rattle.digits.specs.Decimal.{digitsOf}
-use Rattle.layout.specs.Fields.{readable, content, whole}
-use Rattle.layout.proofs.ReturnTrip.{whole-of}
-use Rattle.places.specs.declared.Place.{Place}
-use Rattle.places.specs.Bids.{malformed, placeOf, placesIn, columns, placesOf}
-use Rattle.places.proofs.Reading.{place-at}
-use Rattle.envelope.specs.declared.application.Field.the-variants.{Sender, Recipient, Cro, Date, Time, Check}
-use Rattle.envelope.specs.declared.application.Fields.{Fields}
+use lib.ListN.{length, take, drop}
+use lib.Seq.{take-all}
+use Rattle.output.specs.Output.{Wrote}
+use Rattle.output.proofs.Output.{from-start}
+use Rattle.layout.specs.Fields.{readable}
 use Rattle.envelope.specs.Refusals.{firstHolding}
-use Rattle.envelope.specs.Application.{layout6G1, fieldsOf, noFields, reading}
-use Rattle.envelope.proofs.Promise.{whole-field, length-field}
-use Rattle.optes.specs.Interface.{hasField, numbered, fieldDigits, placeNumbered}
+use Rattle.envelope.specs.Application.{layout6G1}
+use Rattle.numbers.specs.Numbers.{numbersOf}
+use Rattle.numbers.proofs.Arrays.{length-numbers}
+use Rattle.optes.specs.Interface.{numbersRead}
 
--- a field that is there is whole
-pub whole-there : (k : ℕ) (m : List ℕ) → hasField k m ≡ true → whole k m ≡ true
-unfolding hasField layout6G1
-whole-there k m h = whole-of layout6G1 m (and-left (readable layout6G1 m) (ltb k 10) h) k (ltb-true k 10 (and-right (readable layout6G1 m) (ltb k 10) h))
+pub numbers-unreadable : (m array : List ℕ) → readable layout6G1 m ≡ false → numbersRead m array ≡ (some 12, array)
+unfolding numbersRead firstHolding
+numbers-unreadable m array h = rw h
 
--- the fields of a reading, where the message is readable and where it is not
-pub fields-read : (m : List ℕ) → readable layout6G1 m ≡ true → reading m .1 ≡ fieldsOf m
-unfolding reading firstHolding
-fields-read m h = rw h
+pub numbers-given : (m array : List ℕ) → readable layout6G1 m ≡ true → numbersRead m array ≡ (none, take (length array) (numbersOf m) ++ drop 45 array)
+unfolding numbersRead firstHolding
+numbers-given m array h = rw h
 
-pub fields-none : (m : List ℕ) → readable layout6G1 m ≡ false → reading m .1 ≡ noFields
-unfolding reading firstHolding
-fields-none m h = rw h
-
--- the digit fields by their numbers
-digit-number : (k : ℕ) (m : List ℕ) → 1 ≤ k → k ≤ 6 → numbered k (fieldsOf m) ≡ digitsOf (content k m)
-unfolding numbered fieldsOf
-digit-number zero m h l = absurd (let z : ⊥ = omega arith in z)
-digit-number (suc zero) m h l = refl
-digit-number (suc (suc zero)) m h l = refl
-digit-number (suc (suc (suc zero))) m h l = refl
-digit-number (suc (suc (suc (suc zero)))) m h l = refl
-digit-number (suc (suc (suc (suc (suc zero))))) m h l = refl
-digit-number (suc (suc (suc (suc (suc (suc zero)))))) m h l = refl
-digit-number (suc (suc (suc (suc (suc (suc (suc k))))))) m h l = absurd (let z : ⊥ = omega arith in z)
-
-no-digit-number : (k : ℕ) (f : Fields) → leb 1 k && leb k 6 ≡ false → numbered k f ≡ None
-unfolding numbered
-no-digit-number zero f h = refl
-no-digit-number (suc zero) f h = absurd (false≢true (sym h))
-no-digit-number (suc (suc zero)) f h = absurd (false≢true (sym h))
-no-digit-number (suc (suc (suc zero))) f h = absurd (false≢true (sym h))
-no-digit-number (suc (suc (suc (suc zero)))) f h = absurd (false≢true (sym h))
-no-digit-number (suc (suc (suc (suc (suc zero))))) f h = absurd (false≢true (sym h))
-no-digit-number (suc (suc (suc (suc (suc (suc zero)))))) f h = absurd (false≢true (sym h))
-no-digit-number (suc (suc (suc (suc (suc (suc (suc k))))))) f h = refl
-
-nothing-numbered : (k : ℕ) → numbered k noFields ≡ None
-unfolding numbered
-nothing-numbered zero = refl
-nothing-numbered (suc zero) = refl
-nothing-numbered (suc (suc zero)) = refl
-nothing-numbered (suc (suc (suc zero))) = refl
-nothing-numbered (suc (suc (suc (suc zero)))) = refl
-nothing-numbered (suc (suc (suc (suc (suc zero))))) = refl
-nothing-numbered (suc (suc (suc (suc (suc (suc zero)))))) = refl
-nothing-numbered (suc (suc (suc (suc (suc (suc (suc k))))))) = refl
-
-module _ (k : ℕ) (m : List ℕ) where
-  pub digits-there : readable layout6G1 m ≡ true → 1 ≤ k → k ≤ 6 → fieldDigits k m ≡ digitsOf (content k m)
-  unfolding fieldDigits
-  digits-there h l u = ap (numbered k) (fields-read m h) ∙ digit-number k m l u
-
-  pub digits-other : readable layout6G1 m ≡ true → leb 1 k && leb k 6 ≡ false → None ≡ fieldDigits k m
-  unfolding fieldDigits
-  digits-other h t = sym (no-digit-number k (reading m .1) t)
-
-  pub digits-none : readable layout6G1 m ≡ false → None ≡ fieldDigits k m
-  unfolding fieldDigits
-  digits-none h = sym (ap (numbered k) (fields-none m h) ∙ nothing-numbered k)
-
--- a digit field is whole, and its number fits
-pub digit-field : (k : ℕ) (m : List ℕ) → readable layout6G1 m ≡ true → 1 ≤ k → k ≤ 6 → (whole k m ≡ true) × (length (content k m) ≤ 19)
-digit-field zero m h l u = absurd (let z : ⊥ = omega arith in z)
-digit-field (suc zero) m h l u = (whole-field m h Sender, omega (arith, length-field m h Sender))
-digit-field (suc (suc zero)) m h l u = (whole-field m h Recipient, omega (arith, length-field m h Recipient))
-digit-field (suc (suc (suc zero))) m h l u = (whole-field m h Cro, omega (arith, length-field m h Cro))
-digit-field (suc (suc (suc (suc zero)))) m h l u = (whole-field m h Date, omega (arith, length-field m h Date))
-digit-field (suc (suc (suc (suc (suc zero))))) m h l u = (whole-field m h Time, omega (arith, length-field m h Time))
-digit-field (suc (suc (suc (suc (suc (suc zero)))))) m h l u = (whole-field m h Check, omega (arith, length-field m h Check))
-digit-field (suc (suc (suc (suc (suc (suc (suc k))))))) m h l u = absurd (let z : ⊥ = omega arith in z)
-
--- the places by their numbers
-column : {A : Type 0} (f : Place → A) (s : List ℕ) (k : ℕ) → k < 10 → getD (map f (placesIn 10 s)) k (f malformed) ≡ f (placeOf (take 24 (drop (24 * k) s)))
-column f s k h = List·getD-map f (placesIn 10 s) k malformed ∙ ap f (place-at 10 s k h)
-
-past : {A : Type 0} (f : Place → A) (ps : List Place) (k : ℕ) → length ps ≤ k → getD (map f ps) k (f malformed) ≡ f malformed
-past f ps k h = List·getD-map f ps k malformed ∙ ap f (List·getD-eq-default ps malformed h)
-
-pub place-there : (k : ℕ) (s : List ℕ) → k < 10 → placeNumbered k (placesOf s) ≡ placeOf (take 24 (drop (24 * k) s))
-unfolding placeNumbered placesOf
-place-there k s h =
-    let formed = column (λ (p : Place). p .formed) s k h in
-    let rate = column (λ (p : Place). p .rate) s k h in
-    let amount = column (λ (p : Place). p .amount) s k h in
-    λ i. record { formed = formed i; rate = rate i; amount = amount i }
-
-pub place-past : (k : ℕ) (ps : List Place) → length ps ≤ k → malformed ≡ placeNumbered k (columns ps)
-unfolding placeNumbered
-place-past k ps h =
-    let formed = past (λ (p : Place). p .formed) ps k h in
-    let rate = past (λ (p : Place). p .rate) ps k h in
-    let amount = past (λ (p : Place). p .amount) ps k h in
-    sym (λ i. record { formed = formed i; rate = rate i; amount = amount i })
-
-all-malformed : (n k : ℕ) → getD (replicate n malformed) k malformed ≡ malformed
-all-malformed zero k = refl
-all-malformed (suc n) zero = refl
-all-malformed (suc n) (suc k) = all-malformed n k
-
-no-column : {A : Type 0} (f : Place → A) (k : ℕ) → getD (map f (replicate 10 malformed)) k (f malformed) ≡ f malformed
-no-column f k = List·getD-map f (replicate 10 malformed) k malformed ∙ ap f (all-malformed 10 k)
-
-pub place-none : (k : ℕ) → malformed ≡ placeNumbered k (noFields .places)
-unfolding placeNumbered
-place-none k =
-    let formed = no-column (λ (p : Place). p .formed) k in
-    let rate = no-column (λ (p : Place). p .rate) k in
-    let amount = no-column (λ (p : Place). p .amount) k in
-    sym (λ i. record { formed = formed i; rate = rate i; amount = amount i })
+pub numbers-all : (m array after : List ℕ) (end : ℕ) → readable layout6G1 m ≡ true → 45 ≤ length array → Wrote array 0 (numbersOf m) after end → numbersRead m array ≡ (none, after)
+numbers-all m array after end h l w =
+    let n = length-numbers m in
+    numbers-given m array h ∙ rw (w .bytes, from-start array (numbersOf m), n, take-all (length array) (numbersOf m) (omega arith))

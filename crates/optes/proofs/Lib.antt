@@ -1,4 +1,2 @@
 pub mod Interface
 pub mod Rates
-pub mod Parts
-pub mod Arrays

@@ -15,7 +15,8 @@ use places::Rate;
 use places::internal::read_place;
 ghost use mathlib.Core.Path.{_≡_};
 ghost use Rattle.envelope.specs.Application.{readingRefused};
-ghost use Rattle.optes.specs.Interface.{answerNumber, flag, hasField, startOf, lengthOf, fieldDigits, placeAt};
+ghost use Rattle.numbers.specs.ByNumber.{flag, hasField, startOf, fieldDigits, placeAt};
+ghost use Rattle.optes.specs.Interface.{answerNumber, lengthOf};
 ghost use Rattle.digits.specs.Decimal.{isNumber, numberIn};
 ghost use Rattle.places.specs.Bids.{malformed};
 

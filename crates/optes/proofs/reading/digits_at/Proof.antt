@@ -9,7 +9,7 @@ use lib.Dec.{leb}
 use Rattle.laws.proofs.Tests.{and-left, and-right}
 use Rattle.layout.specs.Fields.{readable}
 use Rattle.envelope.specs.Application.{layout6G1}
-use Rattle.optes.proofs.Interface.{digits-there, digits-other, digits-none, digit-field}
+use Rattle.numbers.proofs.ByNumber.{digits-there, digits-other, digits-none, digit-field}
 use Rattle.optes.proofs.reading.digits_at.Statement.{statement}
 use Rattle.optes.proofs.reading.digits_at.Tie as tie
 

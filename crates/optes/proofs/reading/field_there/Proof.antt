@@ -1,6 +1,6 @@
 -- `optes::reading::field_there` meets its contract. Assumes nothing.
 use borrow.Author.Needs.{needs}
-use Rattle.optes.specs.Interface.{hasField}
+use Rattle.numbers.specs.ByNumber.{hasField}
 use Rattle.optes.proofs.reading.field_there.Statement.{statement}
 use Rattle.optes.proofs.reading.field_there.Tie as tie
 

@@ -1,7 +1,7 @@
 -- `optes::reading::optes_6g1_has_field` meets its contract. Assumes nothing.
 use borrow.Author.Needs.{needs}
 use mathlib.Core.Path.{ap, _∙_}
-use Rattle.optes.specs.Interface.{flag}
+use Rattle.numbers.specs.ByNumber.{flag}
 use Rattle.optes.proofs.reading.optes_6g1_has_field.Statement.{statement}
 use Rattle.optes.proofs.reading.optes_6g1_has_field.Tie as tie
 

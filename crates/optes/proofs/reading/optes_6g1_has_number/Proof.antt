@@ -2,7 +2,7 @@
 use borrow.Author.Needs.{needs}
 use mathlib.Core.Path.{ap, _∙_}
 use Rattle.digits.specs.Decimal.{isNumber}
-use Rattle.optes.specs.Interface.{flag}
+use Rattle.numbers.specs.ByNumber.{flag}
 use Rattle.optes.proofs.reading.optes_6g1_has_number.Statement.{statement}
 use Rattle.optes.proofs.reading.optes_6g1_has_number.Tie as tie
 

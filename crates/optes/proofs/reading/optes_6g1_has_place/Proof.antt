@@ -2,7 +2,7 @@
 use borrow.Author.Needs.{needs}
 use mathlib.Core.Path.{ap, _∙_}
 use Rattle.places.specs.declared.Place.{Place}
-use Rattle.optes.specs.Interface.{flag}
+use Rattle.numbers.specs.ByNumber.{flag}
 use Rattle.optes.proofs.reading.optes_6g1_has_place.Statement.{statement}
 use Rattle.optes.proofs.reading.optes_6g1_has_place.Tie as tie
 

@@ -4,8 +4,9 @@ use mathlib.Core.Path.{_≡_, sym, ap, _∙_}
 use mathlib.Core.Bool.{true}
 use denote.Ref.{now}
 use lib.ListN.{length}
-use Rattle.optes.specs.Interface.{hasField, lengthOf}
-use Rattle.optes.proofs.Interface.{whole-there}
+use Rattle.numbers.specs.ByNumber.{hasField}
+use Rattle.optes.specs.Interface.{lengthOf}
+use Rattle.numbers.proofs.ByNumber.{whole-there}
 use Rattle.optes.proofs.reading.optes_6g1_length.Statement.{statement}
 use Rattle.optes.proofs.reading.optes_6g1_length.Tie as tie
 

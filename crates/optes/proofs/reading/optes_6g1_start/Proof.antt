@@ -5,8 +5,8 @@ use mathlib.Core.Bool.{true}
 use native.Mathlib.Omega.{arith}
 use denote.Ref.{now}
 use Rattle.layout.proofs.Fields.{offset-within}
-use Rattle.optes.specs.Interface.{hasField, startOf}
-use Rattle.optes.proofs.Interface.{whole-there}
+use Rattle.numbers.specs.ByNumber.{hasField, startOf}
+use Rattle.numbers.proofs.ByNumber.{whole-there}
 use Rattle.optes.proofs.reading.optes_6g1_start.Statement.{statement}
 use Rattle.optes.proofs.reading.optes_6g1_start.Tie as tie
 

@@ -13,8 +13,8 @@ use Rattle.places.proofs.Reading.{length-places}
 use Rattle.envelope.specs.declared.application.Field.the-variants.{Bids}
 use Rattle.envelope.specs.declared.application.Fields.{Fields}
 use Rattle.envelope.specs.Application.{layout6G1, bytesOf, fieldsOf}
-use Rattle.optes.specs.Interface.{placeNumbered, placeAt}
-use Rattle.optes.proofs.Interface.{fields-read, fields-none, place-there, place-past, place-none}
+use Rattle.numbers.specs.ByNumber.{placeNumbered, placeAt}
+use Rattle.numbers.proofs.ByNumber.{fields-read, fields-none, place-there, place-past, place-none}
 use Rattle.optes.proofs.reading.place_at.Statement.{statement}
 use Rattle.optes.proofs.reading.place_at.Tie as tie
 

@@ -1,0 +1,45 @@
+-- Laws of an array that the numbers of a 6G1 are stored in. Assumes nothing.
+use mathlib.Core.Path.{_≡_, refl, sym, ap, _∙_}
+use mathlib.Core.Bool.{Bool, true, false}
+use mathlib.Core.List.{List, [], _∷_, _++_, append-nil}
+use Prim.Native.Nat.{ℕ, zero, suc, _+_, _<_}
+use mir.Val.{boolByte}
+use native.Mathlib.Nat.{not-suc-le-zero, le-of-suc-le-suc}
+use native.Mathlib.Numerals.{add-one}
+use native.Mathlib.Omega.{arith}
+use lib.ListN.{length, take, drop, getD, set, drop-of-length-le}
+use lib.Seq.{take-nil, drop-nil}
+use Rattle.output.specs.Output.{Wrote}
+use Rattle.output.proofs.Output.{then, from-start}
+use Rattle.numbers.specs.ByNumber.{flag}
+use Rattle.numbers.specs.Numbers.{digitNumbers, placeNumbers, fieldsNumbers, placesNumbers, textStarts, numbersOf}
+
+-- a bool as a number
+pub flag-is : (b : Bool) → boolByte b ≡ flag b
+flag-is true = refl
+flag-is false = refl
+
+-- a write from the start and one after it
+pub and-then : {d s t d₁ d₂ : List ℕ} {e₁ e₂ : ℕ} → Wrote d 0 s d₁ e₁ → Wrote d₁ e₁ t d₂ e₂ → Wrote d 0 (s ++ t) d₂ e₂
+and-then v w = then (omega arith) v w
+
+room-suc : (all array : List ℕ) (k : ℕ) → k < length all → set (take (length array) (take k all) ++ drop k array) k (getD all k 0) ≡ take (length array) (take (suc k) all) ++ drop (suc k) array
+room-suc [] array k h = absurd (not-suc-le-zero h)
+room-suc (x ∷ all) [] k h = ap (λ (l : List ℕ). set l k (getD (x ∷ all) k 0)) (drop-nil k)
+room-suc (x ∷ all) (y ∷ array) zero h = ap (λ (l : List ℕ). x ∷ (l ++ array)) (sym (take-nil (length array)))
+room-suc (x ∷ all) (y ∷ array) (suc k) h = ap (λ (l : List ℕ). x ∷ l) (room-suc all array k (le-of-suc-le-suc h))
+
+-- one more number stored where there is room for it
+pub room-more : (all array now : List ℕ) (k : ℕ) → k < length all → now ≡ take (length array) (take k all) ++ drop k array → set now k (getD all k 0) ≡ take (length array) (take (k + 1) all) ++ drop (k + 1) array
+room-more all array now k h e = rw (e, add-one) (room-suc all array k h)
+
+-- they are 45
+pub length-numbers : (m : List ℕ) → length (numbersOf m) ≡ 45
+unfolding numbersOf fieldsNumbers digitNumbers placesNumbers placeNumbers textStarts
+length-numbers m = refl
+
+-- an array of 45 holds the numbers that were written to it, and nothing else
+pub numbers-only : (m d : List ℕ) {after : List ℕ} {end : ℕ} → length d ≡ 45 → Wrote d 0 (numbersOf m) after end → after ≡ numbersOf m
+numbers-only m d l w =
+    let n = length-numbers m in
+    w .bytes ∙ from-start d (numbersOf m) ∙ rw (drop-of-length-le d {i = length (numbersOf m)} (omega arith)) (append-nil (numbersOf m))

@@ -1,0 +1,125 @@
+// The numbers of a readable 6G1, stored one after the other. Each of its fields stands where the layout
+// puts it, so that its bytes are parts at fixed indices.
+use digits::Digits;
+use digits::has_number;
+use digits::number_of;
+use places::Place;
+use places::internal::read_place;
+use words::internal::long_number_at;
+use words::internal::number_at;
+ghost use mathlib.Core.Path.{_≡_};
+ghost use mathlib.Core.Bool.{true};
+ghost use mathlib.Core.List.{[], _∷_, _++_};
+ghost use Prim.Native.Nat.{_+_, _≤_, _<_};
+ghost use lib.ListN.{length, take, drop, set};
+ghost use Rattle.output.specs.Output.{Wrote};
+ghost use Rattle.layout.specs.Fields.{readable};
+ghost use Rattle.envelope.specs.Application.{layout6G1};
+ghost use Rattle.numbers.specs.Numbers.{digitNumbers, placeNumbers, fieldsNumbers, placesNumbers, textStarts, numbersOf};
+
+// Writes one number.
+fn put(numbers: &mut [u64], at: usize, n: u64) -> usize
+    requires { ⌜ at < length (now numbers) ⌝ }
+    ensures { λ r. ⌜ Wrote (now (numbers .entry)) at (n ∷ []) (now (numbers .exit)) r ⌝ }
+{
+    numbers[at] = n;
+    at + 1
+}
+
+// Writes three numbers.
+fn put_three(numbers: &mut [u64], at: usize, a: u64, b: u64, c: u64) -> usize
+    requires { ⌜ at + 3 ≤ length (now numbers) ⌝ }
+    ensures { λ r. ⌜ Wrote (now (numbers .entry)) at (a ∷ b ∷ c ∷ []) (now (numbers .exit)) r ⌝ }
+{
+    let second = put(numbers, at, a);
+    let third = put(numbers, second, b);
+    put(numbers, third, c)
+}
+
+// Writes the number of a digit field and whether it has one.
+fn put_number(numbers: &mut [u64], at: usize, d: Digits) -> usize
+    requires { ⌜ at + 2 ≤ length (now numbers) ⌝ }
+    ensures { λ r. ⌜ Wrote (now (numbers .entry)) at (digitNumbers d) (now (numbers .exit)) r × (r ≡ at + 2) ⌝ }
+{
+    let flag = put(numbers, at, number_of(d));
+    put(numbers, flag, has_number(d) as u64)
+}
+
+// Writes the numbers of the six digit fields.
+fn put_fields(numbers: &mut [u64], m: &[u8]) -> usize
+    requires { ⌜ (readable layout6G1 (now m) ≡ true) × (12 ≤ length (now numbers)) ⌝ }
+    ensures { λ r. ⌜ Wrote (now (numbers .entry)) 0 (fieldsNumbers (now (m .entry))) (now (numbers .exit)) r × (r ≡ 12) ⌝ }
+{
+    let recipient = put_number(numbers, 0, number_at(m, 9, 14));
+    let cro = put_number(numbers, recipient, number_at(m, 17, 22));
+    let date = put_number(numbers, cro, long_number_at(m, 25, 36));
+    let time = put_number(numbers, date, number_at(m, 39, 47));
+    let check = put_number(numbers, time, number_at(m, 50, 56));
+    put_number(numbers, check, number_at(m, 59, 64))
+}
+
+// Writes the numbers of a place and whether it is well formed.
+fn put_place(numbers: &mut [u64], at: usize, p: Place) -> usize
+    requires { ⌜ at + 3 ≤ length (now numbers) ⌝ }
+    ensures { λ r. ⌜ Wrote (now (numbers .entry)) at (placeNumbers p) (now (numbers .exit)) r × (r ≡ at + 3) ⌝ }
+{
+    let rate = p.rate;
+    let amount = p.amount;
+    put_three(numbers, at, rate.0 as u64, amount.0, p.formed as u64)
+}
+
+// Writes the numbers of the ten places.
+fn put_places(numbers: &mut [u64], at: usize, m: &[u8]) -> usize
+    requires { ⌜ (readable layout6G1 (now m) ≡ true) × (at + 30 ≤ length (now numbers)) ⌝ }
+    ensures { λ r. ⌜ Wrote (now (numbers .entry)) at (placesNumbers 10 (now (m .entry))) (now (numbers .exit)) r × (r ≡ at + 30) ⌝ }
+{
+    let mut end = at;
+    let mut k = 0;
+    while k < 10 {
+        let start = 81 + 24 * k;
+        end = put_place(numbers, end, read_place(&m[start..start + 24]));
+        k += 1;
+    }
+    end
+}
+
+// Writes where type, identifier and name start.
+fn put_starts(numbers: &mut [u64], at: usize, m: &[u8]) -> usize
+    requires { ⌜ (readable layout6G1 (now m) ≡ true) × (at + 3 ≤ length (now numbers)) ⌝ }
+    ensures { λ r. ⌜ Wrote (now (numbers .entry)) at (textStarts (now (m .entry))) (now (numbers .exit)) r ⌝ }
+{
+    put_three(numbers, at, 3, 67, 324)
+}
+
+// Writes all numbers of a message.
+pub fn put_all(numbers: &mut [u64], m: &[u8]) -> usize
+    requires { ⌜ (readable layout6G1 (now m) ≡ true) × (45 ≤ length (now numbers)) ⌝ }
+    ensures { λ r. ⌜ Wrote (now (numbers .entry)) 0 (numbersOf (now (m .entry))) (now (numbers .exit)) r ⌝ }
+{
+    let places = put_fields(numbers, m);
+    let starts = put_places(numbers, places, m);
+    put_starts(numbers, starts, m)
+}
+
+// Stores a number where the array has room for it.
+fn put_if_room(numbers: &mut [u64], at: usize, n: u64)
+    ensures { λ _. ⌜ now (numbers .exit) ≡ set (now (numbers .entry)) at n ⌝ }
+{
+    if numbers.len() <= at {
+        return;
+    }
+    numbers[at] = n;
+}
+
+// Stores as many of the 45 numbers as the array has room for. A loop that ends with the array would be
+// compiled to a call of memcpy, and the archive for C needs nothing from elsewhere.
+pub fn put_first(numbers: &mut [u64], all: &[u64])
+    requires { ⌜ length (now all) ≡ 45 ⌝ }
+    ensures { λ _. ⌜ now (numbers .exit) ≡ take (length (now (numbers .entry))) (now (all .entry)) ++ drop 45 (now (numbers .entry)) ⌝ }
+{
+    let mut k = 0;
+    while k < 45 {
+        put_if_room(numbers, k, all[k]);
+        k += 1;
+    }
+}
