@@ -1,2 +1,2 @@
 pub mod Allotted
-pub mod Absent
+pub mod Given

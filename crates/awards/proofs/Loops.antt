@@ -13,6 +13,7 @@ use borrow.Author.Tests.{ltb-false}
 use Rattle.laws.proofs.Arrays.{fill-more, fill-all}
 use Rattle.rules.specs.Allotment.{Bid, noBid, filled, Offer, isIn, isEqual, keep}
 use Rattle.rules.specs.Allotment.{total, totalBetter, totalEqual, sum, award, awardsFrom, awards}
+use Rattle.rules.proofs.Links.{length-awards}
 use Rattle.rules.proofs.Kept.{total-cons, length-last}
 use Rattle.bids.specs.Columns.{bidsOf}
 use Rattle.bids.proofs.SideBySide.{bidIn, length-of, bid-of, member-at, drop-bids, total-of}
@@ -45,11 +46,6 @@ module _ (src old cur : List ℕ) (i : ℕ) (same : length old ≡ length src) (
 
 -- awards
 
-length-from : (o : Offer) (bs before rest : List Bid) → length (awardsFrom o bs before rest) ≡ length rest
-unfolding awardsFrom
-length-from o bs before [] = refl
-length-from o bs before (b ∷ rest) = ap suc (length-from o bs (before ++ (b ∷ [])) rest)
-
 award-from : (o : Offer) (bs before rest : List Bid) (k : ℕ) → k < length rest
     → getD (awardsFrom o bs before rest) k 0 ≡ award o bs (before ++ take k rest) (getD rest k noBid)
 unfolding awardsFrom
@@ -61,10 +57,6 @@ award-from o bs before (b ∷ rest) (suc k) h = award-from o bs (before ++ (b �
 award-is : (o : Offer) (bs : List Bid) (k : ℕ) → k < length bs → getD (awards o bs) k 0 ≡ award o bs (take k bs) (getD bs k noBid)
 unfolding awards
 award-is o bs k h = award-from o bs [] bs k h
-
-pub length-awards : (o : Offer) (bs : List Bid) → length (awards o bs) ≡ length bs
-unfolding awards
-length-awards o bs = length-from o bs [] bs
 
 pub length-served : (o : Offer) (r b e : ℕ) (bs : List Bid) → length (servedAll o r b e bs) ≡ length bs
 unfolding servedAll

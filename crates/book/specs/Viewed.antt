@@ -7,7 +7,7 @@ use Prim.Native.Nat.{ℕ, zero, suc, _*_}
 use lib.Dec.{eqb, ltb}
 use lib.ListN.{length, getD}
 use Rattle.rules.specs.Allotment.{Bid}
-use Rattle.rules.specs.Opening.{any}
+use Rattle.rules.specs.Opening.{Admission, admitting, any}
 use Rattle.places.specs.declared.Rate.{Rate}
 use Rattle.places.specs.declared.Amount.{Amount}
 use Rattle.bids.specs.Columns.{bidsFrom, cents}
@@ -85,6 +85,10 @@ replaced (e ∷ es) (suc i) time bids = e ∷ replaced es i time bids
 unfoldable pub codesIn : List Entry → List ℕ
 codesIn [] = []
 codesIn (e ∷ es) = e .code ∷ codesIn es
+
+-- whom a book admits
+abbrev pub admissionOf : Book → Admission
+admissionOf b = admitting (codesIn (viewed b))
 
 -- what the entry at an index holds; past the last entry there is none
 unfoldable pub heldIn : List Entry → ℕ → Option ℕ

@@ -16,12 +16,12 @@ use Rattle.places.specs.Bids
 use Rattle.places.specs.declared.Place.{Place}
 use Rattle.envelope.specs.declared.application.Field.the-variants.{Bids}
 use Rattle.envelope.specs.Application.{bytesOf, fieldsOf}
-use Rattle.rules.specs.Opening.{any}
+use Rattle.rules.specs.Opening.{Admission, any}
 use Rattle.bids.proofs.Columns.{bids-ten}
 use Rattle.terms.specs.declared.Terms as declared
 use Rattle.terms.specs.Viewed.{viewed}
 use Rattle.checks.specs.Columns.{columnErrors}
-use Rattle.rules.specs.Receiving.{Error, when, senderErrors, messagePlaces, messageBids, bidErrors, placeErrors}
+use Rattle.rules.specs.Receiving.{Error, when, senderErrors, bidsIn, bidErrors, placeErrors}
 
 -- errors added, and more added to those, are added together
 pub added : (before between after es fs : List Error) → between ≡ before ++ es → after ≡ between ++ fs → after ≡ before ++ (es ++ fs)
@@ -65,8 +65,8 @@ turned : {A : Type 0} (b : Bool) (x y : A) → cond (not b) x y ≡ cond b y x
 turned true x y = refl
 turned false x y = refl
 
-pub column-errors : (t : declared.Terms) (codes m : List ℕ) → columnErrors t (fieldsOf m .places) ≡ placeErrors (viewed t codes) m
-unfolding columnErrors placeErrors bidErrors fieldsOf Bids.placesOf messagePlaces messageBids
-column-errors t codes m =
-    let ps = messagePlaces m in
+pub column-errors : (t : declared.Terms) (a : Admission) (m : List ℕ) → columnErrors t (fieldsOf m .places) ≡ placeErrors (viewed t a) (bytesOf Bids m)
+unfolding columnErrors placeErrors bidErrors fieldsOf Bids.placesOf bidsIn
+column-errors t a m =
+    let ps = Bids.placesIn 10 (bytesOf Bids m) in
     rw (some-malformed ps, bids-ten (bytesOf Bids m)) (sym (turned (allFormed (map (λ (p : Place). p .formed) ps)) _ _))

@@ -12,7 +12,7 @@ use Rattle.envelope.specs.declared.application.Field.the-variants.{MessageType,
 use Rattle.envelope.specs.declared.application.Fields.{Fields}
 use Rattle.envelope.specs.Application.{bytesOf}
 use Rattle.rules.specs.Opening as rules
-use Rattle.rules.specs.Opening.{isTime, any}
+use Rattle.rules.specs.Opening.{Admission, admitting, isTime, any}
 use Rattle.rules.specs.Receiving.{Reception, Error, when, senderErrors, dateErrors, bidErrors, errors}
 use Rattle.bids.specs.Columns.{bidsFrom}
 use Rattle.errors.specs.declared.Errors.{Errors}
@@ -22,13 +22,13 @@ use Rattle.terms.specs.Viewed.{viewed}
 
 -- '6G6-901 a place malformed; if none is: 902 ..'; which codes are admitted is not asked
 unfoldable pub columnErrors : Terms → Places → List Error
-columnErrors t p = cond (allFormed (p .formed)) (bidErrors (viewed t []) (bidsFrom (p .rates) (p .amounts) 0 10)) ((ascii "6G6", 901) ∷ [])
+columnErrors t p = cond (allFormed (p .formed)) (bidErrors (viewed t (admitting [])) (bidsFrom (p .rates) (p .amounts) 0 10)) ((ascii "6G6", 901) ∷ [])
 
 -- '001-900 .. 6G0-303'
 unfoldable pub headErrors : rules.Terms → List ℕ → Fields → List Error
 headErrors t m f =
     when (not (sameText (bytesOf MessageType m) (ascii "6G1"))) (ascii "001", 900)
-    ++ senderErrors (t .codes) (f .sender)
+    ++ senderErrors (t .admission .codes) (f .sender)
     ++ when (not (sameText (bytesOf Recipient m) (ascii "01000"))) (ascii "050", 599)
     ++ when (not (isNumber (f .cro))) (ascii "020", 521)
     ++ dateErrors (t .execution) (f .date)
@@ -40,15 +40,15 @@ headErrors t m f =
 abbrev pub receptionOf : List ℕ → ℕ → ℕ → List ℕ → Reception
 receptionOf m day second space = record { message = m; date = day; time = second; space = space }
 
--- whether the sender is one of the codes was asked before
-abbrev pub Admits : List ℕ → Fields → Bool → Type 0
-Admits codes f admitted = admitted ≡ any (eqb (numberIn (f .sender))) codes
+-- whether the sender is admitted was asked before
+abbrev pub Admits : Admission → Fields → Bool → Type 0
+Admits a f admitted = admitted ≡ any (eqb (numberIn (f .sender))) (a .codes)
 
--- the errors of the fields before the places, whatever the codes are of which the sender is one or is not; at most eight
+-- the errors of the fields before the places, whatever the admission is to which the sender belongs or not; at most eight
 abbrev pub HeadErrors : Terms → List ℕ → Fields → Bool → Errors → Type 0
-HeadErrors t m f admitted e = ((codes : List ℕ) → Admits codes f admitted → listed e ≡ headErrors (viewed t codes) m f) × (e .n ≤ 8)
+HeadErrors t m f admitted e = ((a : Admission) → Admits a f admitted → listed e ≡ headErrors (viewed t a) m f) × (e .n ≤ 8)
 
 -- all errors of a message received on a day and at a second, in the same way; at most fifteen
 abbrev pub AllErrors : Terms → List ℕ → Fields → Bool → ℕ → ℕ → Errors → Type 0
 AllErrors t m f admitted day second e =
-    ((codes space : List ℕ) → Admits codes f admitted → listed e ≡ errors (viewed t codes) (receptionOf m day second space)) × (e .n ≤ 15)
+    ((a : Admission) (space : List ℕ) → Admits a f admitted → listed e ≡ errors (viewed t a) (receptionOf m day second space)) × (e .n ≤ 15)

@@ -11,9 +11,10 @@ use Rattle.output.specs.Output.{Wrote}
 use Rattle.output.proofs.Output.{from-start}
 use Rattle.layout.specs.Fields.{lengthAt}
 use Rattle.layout.proofs.Fields.{first-byte}
-use Rattle.rules.specs.Opening.{rising}
+use Rattle.rules.specs.Opening.{admitting}
 use Rattle.rules.specs.Receiving.{newBook}
 use Rattle.rules.specs.Calls as rules
+use Rattle.rules.specs.Events.{Kept}
 use Rattle.terms.specs.declared.Terms.{Terms}
 use Rattle.terms.specs.Viewed as terms
 use Rattle.bids.specs.Columns.{bidsFrom}
@@ -22,15 +23,19 @@ use Rattle.book.specs.Viewed as book
 use Rattle.book.proofs.Empty.{new-whole}
 use Rattle.book.proofs.Joining.{new-codes, replaced-codes}
 use Rattle.book.proofs.Storing.{Sized, stored, viewed-stored}
-use Rattle.tender.specs.declared.State.{State}
-use Rattle.tender.specs.declared.State.the-variants as state
-use Rattle.tender.specs.declared.internal.Accepted.{Accepted}
-use Rattle.tender.specs.Viewed as tender
+use Rattle.refusals.specs.declared.State.{State}
+use Rattle.refusals.specs.declared.State.the-variants as state
+use Rattle.refusals.specs.Conditions.{stateOf}
+use Rattle.outcomes.specs.declared.internal.Accepted.{Accepted}
+use Rattle.outcomes.specs.Outcomes.{viewedOf}
 use Rattle.tender.specs.Viewed.{tenderOf}
 use Rattle.log.specs.Steps.{Log, ending, step, tagOf, contentOf, holdsField}
+use Rattle.log.specs.Theorems.{KeptTender}
+use Rattle.log.proofs.Keeping.{steps-keep}
+use Rattle.session_fields.specs.Codes.{codesFrom}
 use Rattle.steps.specs.declared.Taken.{Taken}
 use Rattle.steps.specs.Parts as parts
-use Rattle.steps.specs.Parts.{Parts, admittedNow, tenderIn, codesFrom, withTender, openedOn, holding, Takes}
+use Rattle.steps.specs.Parts.{Parts, admittedNow, tenderIn, withTender, openedOn, holding, Takes}
 use Rattle.journal.specs.declared.Journal.{Journal}
 use Rattle.journal.specs.Viewed.{viewed, Given}
 use Rattle.journal.specs.Runs.{Runs}
@@ -64,6 +69,15 @@ field-taken s at n e p space left r h d =
 pub from-parts : (ended : Bool) (p : Parts) → ended ≡ false → {x space left y : List ℕ} {l : Log} {n : ℕ} → Runs (parts.viewed p) x space l y left n → Runs (viewed (journalOf ended p)) x space l y left n
 from-parts ended p e r = starts-from (ap (λ (b : Bool). viewed (journalOf b p)) (sym e)) r
 
+-- what holds of every tender that calls give holds of the tender after the field's change
+pub kept-after : (p : Parts) → parts.Given p → (tag : ℕ) (s space left : List ℕ) (r : Taken) → Takes (step (parts.viewed p) tag s) p s space r left
+    → KeptTender (parts.after p s (r .terms) (r .accepted) (r .change) .tender)
+kept-after p g tag s space left r d = subst KeptTender (ap (λ (l : Log). l .tender) (d .state)) (steps-keep (parts.viewed p) tag s (there (p .opened)))
+  where
+    there : (b : Bool) → KeptTender (cond b (some (tenderIn p)) none)
+    there true = g .tender
+    there false = tt
+
 -- a journal that a log leads to, with the lengths that its arrays have by their types
 pub record Arrives (l : Log) (j : Journal) : Type 0 where
   pub told : l ≡ viewed j
@@ -87,47 +101,49 @@ module _ (p : Parts) (g : parts.Given p) (full : length (p .codes) ≡ 65) (size
       → Arrives (parts.withCodes p (codesFrom k s)) (journalOf false (parts.parts (p .opened) codes k (p .state) (p .terms) (p .book)))
   admitted s codes k e h all =
       record {
-        told = λ i. record { ended = false; codes = sym e i; tender = parts.viewed p .tender };
+        told = λ i. record { ended = false; admission = admitting (sym e i); tender = parts.viewed p .tender };
         given = record { few = h; tender = g .tender };
         codes-length = all;
         sized = sized;
       }
 
   -- a tender newly opened
-  pub opened : (t : Terms) (b : Book) → length (admittedNow p) ≤ 64 → rising (admittedNow p) ≡ true → book.viewed b ≡ newBook (take 64 (admittedNow p)) → Sized b
+  pub opened : (t : Terms) (b : Book) → length (admittedNow p) ≤ 64 → Kept (openedOn t (admittedNow p)) → book.viewed b ≡ newBook (take 64 (admittedNow p)) → Sized b
       → Arrives (withTender p (openedOn t (admittedNow p))) (journalOf false (parts.parts true (p .codes) (p .n) state.Open t b))
-  opened t b few rises new z =
+  opened t b few k new z =
       let entries = new ∙ new-whole (admittedNow p) few in
       let codes = ap book.codesIn entries ∙ new-codes (admittedNow p) in
+      let is : openedOn t (admittedNow p) ≡ viewedOf state.Open t b = λ i. record { terms = terms.viewed t (admitting (sym codes i)); state = rules.Open; book = sym entries i } in
       record {
-        told = λ i. record { ended = false; codes = admittedNow p; tender = some (record { terms = terms.viewed t (sym codes i); state = rules.Open; book = sym entries i }) };
-        given = record { few = g .few; tender = record { rises = ap rising codes ∙ rises } };
+        told = λ i. record { ended = false; admission = admitting (admittedNow p); tender = some (is i) };
+        given = record { few = g .few; tender = subst Kept is k };
         codes-length = full;
         sized = z;
       }
 
   -- another state
-  pub in-state : (x : State) → p .opened ≡ true → Arrives (withTender p (rules.inState (tender.stateOf x) (tenderIn p))) (journalOf false (parts.parts (p .opened) (p .codes) (p .n) x (p .terms) (p .book)))
-  in-state x o =
+  pub in-state : (x : State) → p .opened ≡ true → Kept (rules.inState (stateOf x) (tenderIn p)) → Arrives (withTender p (rules.inState (stateOf x) (tenderIn p))) (journalOf false (parts.parts (p .opened) (p .codes) (p .n) x (p .terms) (p .book)))
+  in-state x o k =
       record {
-        told = λ i. record { ended = false; codes = admittedNow p; tender = sym (ap (λ (b : Bool). cond b (some (rules.inState (tender.stateOf x) (tenderIn p))) none) o) i };
-        given = record { few = g .few; tender = record { rises = g .tender .rises } };
+        told = λ i. record { ended = false; admission = admitting (admittedNow p); tender = sym (ap (λ (b : Bool). cond b (some (rules.inState (stateOf x) (tenderIn p))) none) o) i };
+        given = record { few = g .few; tender = k };
         codes-length = full;
         sized = sized;
       }
 
   -- a message accepted, its ten places stored
-  pub accepted : (a : Accepted) → p .opened ≡ true → a .at < 64 → length (a .rates) ≡ 10 → length (a .amounts) ≡ 10
+  pub accepted : (a : Accepted) → p .opened ≡ true → a .at < 64 → Kept (holding (tenderIn p) a) → length (a .rates) ≡ 10 → length (a .amounts) ≡ 10
       → Arrives (withTender p (holding (tenderIn p) a)) (journalOf false (parts.parts (p .opened) (p .codes) (p .n) (p .state) (p .terms) (stored (p .book) (a .at) (a .time) (a .rates) (a .amounts))))
-  accepted a o at64 hr hx =
+  accepted a o at64 k hr hx =
       let next = stored (p .book) (a .at) (a .time) (a .rates) (a .amounts) in
       let there = viewed-stored (p .book) sized (a .at) (a .time) (a .rates) (a .amounts) at64 hr hx in
       let codes = ap book.codesIn there ∙ replaced-codes (book.viewed (p .book)) (a .at) (a .time) (bidsFrom (a .rates) (a .amounts) 0 10) in
+      let is : holding (tenderIn p) a ≡ viewedOf (p .state) (p .terms) next = λ i. record { terms = terms.viewed (p .terms) (admitting (sym codes i)); state = stateOf (p .state); book = sym there i } in
       record {
         told =
-            (λ i. record { ended = false; codes = admittedNow p; tender = some (record { terms = terms.viewed (p .terms) (sym codes i); state = tender.stateOf (p .state); book = sym there i }) })
-            ∙ (λ i. record { ended = false; codes = admittedNow p; tender = sym (ap (λ (b : Bool). cond b (some (tender.viewed (tenderOf (p .state) (p .terms) next))) none) o) i });
-        given = record { few = g .few; tender = record { rises = ap rising codes ∙ g .tender .rises } };
+            (λ i. record { ended = false; admission = admitting (admittedNow p); tender = some (is i) })
+            ∙ (λ i. record { ended = false; admission = admitting (admittedNow p); tender = sym (ap (λ (b : Bool). cond b (some (viewedOf (p .state) (p .terms) next)) none) o) i });
+        given = record { few = g .few; tender = subst Kept is k };
         codes-length = full;
         sized =
             record {

@@ -10,7 +10,7 @@ use lib.ListN.{length, take}
 use lib.Seq.{take-all, length-take-le}
 use borrow.Author.Tests.{ltb-true, ltb-false, lt-ltb}
 use Rattle.envelope.specs.Refusals.{firstHolding, unlessRefused}
-use Rattle.rules.specs.Opening.{any, rising, notAnnouncement, otherOrigin, malformedAnnouncement, unknownType, impossibleNumbers, datesDisordered, badCodes, openingRefused, termsOf}
+use Rattle.rules.specs.Opening.{admitting, any, rising, notAnnouncement, otherOrigin, malformedAnnouncement, unknownType, impossibleNumbers, datesDisordered, badCodes, openingRefused, termsOf}
 use Rattle.rules.specs.Receiving.{newBook}
 use Rattle.rules.specs.Calls.{Tender, Open, noTender, openTender}
 use Rattle.log.specs.Theorems.{First65Tell}
@@ -43,7 +43,7 @@ bad-number b m =
     ∷ (7, b)
     ∷ [])
 
-number-is : (m codes : List ℕ) → openingRefused m codes ≡ bad-number (badCodes codes) m
+number-is : (m codes : List ℕ) → openingRefused m (admitting codes) ≡ bad-number (badCodes codes) m
 unfolding openingRefused bad-number
 number-is m codes = refl
 
@@ -61,18 +61,18 @@ unfolding bad-number
 bad-refuses m =
     holds ((1, notAnnouncement m) ∷ (2, otherOrigin m) ∷ (3, malformedAnnouncement m) ∷ (4, unknownType m) ∷ (5, impossibleNumbers m) ∷ (6, datesDisordered m) ∷ []) 7
 
-bad-opening : (m codes : List ℕ) → badCodes codes ≡ true → openTender m codes ≡ (bad-number true m, noTender)
+bad-opening : (m codes : List ℕ) → badCodes codes ≡ true → openTender m (admitting codes) ≡ (bad-number true m, noTender)
 unfolding openTender
 bad-opening m codes h =
-    let e : openingRefused m codes ≡ bad-number true m = number-is m codes ∙ ap (λ (b : Bool). bad-number b m) h in
-    let tender : Tender = record { terms = termsOf m codes; state = Open; book = newBook codes } in
+    let e : openingRefused m (admitting codes) ≡ bad-number true m = number-is m codes ∙ ap (λ (b : Bool). bad-number b m) h in
+    let tender : Tender = record { terms = termsOf m (admitting codes); state = Open; book = newBook codes } in
     λ i. (e i, (ap (λ (l : Option ℕ). unlessRefused l noTender tender) (e ∙ bad-refuses m .1)) i)
 
 pub first-65-tell : First65Tell
 first-65-tell m codes = go (ltb 65 (length codes)) refl
   where
-    go : (b : Bool) → ltb 65 (length codes) ≡ b → openTender m (take 65 codes) ≡ openTender m codes
+    go : (b : Bool) → ltb 65 (length codes) ≡ b → openTender m (admitting (take 65 codes)) ≡ openTender m (admitting codes)
     go true h =
         let long = ltb-true 65 (length codes) h in
         bad-opening m (take 65 codes) (many-bad (take 65 codes) (omega (arith, length-take-le 65 codes (omega arith)))) ∙ sym (bad-opening m codes (many-bad codes (omega arith)))
-    go false h = ap (openTender m) (take-all 65 codes (ltb-false 65 (length codes) h))
+    go false h = ap (λ (l : List ℕ). openTender m (admitting l)) (take-all 65 codes (ltb-false 65 (length codes) h))

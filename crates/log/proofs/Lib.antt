@@ -2,3 +2,4 @@ pub mod Fields
 pub mod Walks
 pub mod Codes
 pub mod Sessions
+pub mod Keeping

@@ -12,7 +12,7 @@ use Rattle.envelope.specs.declared.application.Field.the-variants.{Bids}
 use Rattle.envelope.specs.declared.application.Fields.{Fields}
 use Rattle.envelope.specs.Application.{layout6G1, bytesOf, fieldsOf}
 use Rattle.rules.specs.Opening.{Terms, any}
-use Rattle.rules.specs.Receiving.{Reception, Error, Entry, Submission, errors, isEmpty, isSound, submission, messagePlaces, messageBids, takes, hold, when, returnedErrors}
+use Rattle.rules.specs.Receiving.{Reception, Error, Entry, Submission, errors, isEmpty, isSound, submission, bidsIn, messageBids, takes, hold, when, returnedErrors}
 use Rattle.rules.specs.Calls.{bookAfter}
 use Rattle.bids.specs.Columns.{bidsFrom}
 use Rattle.bids.proofs.Columns.{bids-ten}
@@ -20,7 +20,7 @@ use Rattle.book.specs.Viewed.{soundFrom, accepted}
 use Rattle.reception.specs.Submission.{submitted}
 
 bids-of : (m : List ℕ) → bidsFrom (fieldsOf m .places .rates) (fieldsOf m .places .amounts) 0 10 ≡ messageBids m
-unfolding fieldsOf Bids.placesOf messagePlaces messageBids
+unfolding fieldsOf Bids.placesOf bidsIn
 bids-of m = bids-ten (bytesOf Bids m)
 
 -- what the code takes from the fields of a message

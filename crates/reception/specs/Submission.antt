@@ -11,7 +11,7 @@ use Rattle.rules.specs.Calls.{bookAfter}
 use Rattle.book.specs.declared.Found.{Found}
 use Rattle.book.specs.declared.Found.the-variants.{At, Absent}
 use Rattle.book.specs.declared.Book.{Book}
-use Rattle.book.specs.Viewed.{viewed, codesIn, replaced, Lends}
+use Rattle.book.specs.Viewed.{viewed, admissionOf, replaced, Lends}
 use Rattle.bids.specs.Columns.{bidsFrom}
 use Rattle.places.specs.declared.Places.{Places}
 use Rattle.errors.specs.Listed.{listed}
@@ -37,7 +37,7 @@ isAt Absent = false
 abbrev pub JudgedIn : Book → declared.Terms → List ℕ → Places → ℕ → ℕ → List ℕ → Judged → Type 0
 JudgedIn b t m p day second space j =
     (listed (j .errors), afterJudged (viewed b) j (bidsFrom (p .rates) (p .amounts) 0 10))
-    ≡ submitted (terms.viewed t (codesIn (viewed b))) (viewed b) (receptionOf m day second space)
+    ≡ submitted (terms.viewed t (admissionOf b)) (viewed b) (receptionOf m day second space)
 
 -- the same for every book that lends these codes, times and flags, with at most sixteen errors and a place in the book
 abbrev pub Judges : declared.Terms → ℕ → List ℕ → List ℕ → List Bool → List ℕ → Places → ℕ → ℕ → Judged → Type 0

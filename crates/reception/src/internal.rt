@@ -6,7 +6,9 @@ use book::internal::find_in;
 use book::internal::takes_at;
 use checks::internal::errors_of;
 use digits::number_of;
+use envelope::application::Field;
 use envelope::application::Fields;
+use envelope::internal::bytes_in;
 use errors::Errors;
 use errors::internal::with;
 use replies::internal::put_confirmation;
@@ -85,5 +87,12 @@ pub fn put_reply(space: &mut [u8], m: &[u8], t: Terms, time: u64, e: Errors) -> 
         return put_returned(space, m, e);
     }
     let identifier = t.identifier;
-    put_confirmation(space, m, &identifier, time)
+    put_confirmation(
+        space,
+        b"6G2",
+        bytes_in(m, Field::Sender),
+        bytes_in(m, Field::Cro),
+        time,
+        &identifier,
+    )
 }

@@ -14,18 +14,16 @@ use Rattle.digits.specs.Decimal.{digits}
 use Rattle.digits.proofs.Writing.{length-digits}
 use Rattle.layout.specs.Fields.{head, field, oneOf}
 use Rattle.texts.specs.Texts.{ascii}
-use Rattle.envelope.specs.declared.application.Field.the-variants.{Sender, Cro}
-use Rattle.envelope.specs.Application.{bytesOf}
 use Rattle.rules.specs.Receiving.{Error}
 use Rattle.rules.specs.Replies.{confirmation, errorText, errorTexts, shown}
 use Rattle.errors.specs.Listed.{idcTable, idcIn, named}
 use Rattle.replies.specs.Texts.{rowIn, slashed, origin}
 
 -- sender and CRO written together
-pub confirmation-parts : (m identifier : List ℕ) (time : ℕ) → field 0x01 (ascii "6G2") ++ field 0x04 (ascii "01000") ++ origin m ++ field 0x60 (digits 6 time) ++ field 0x70 identifier ≡ confirmation identifier m time
+pub confirmation-parts : (type sender cro last : List ℕ) (time : ℕ) → field 0x01 type ++ field 0x04 (ascii "01000") ++ origin sender cro ++ field 0x60 (digits 6 time) ++ field 0x70 last ≡ confirmation type sender cro time last
 unfolding confirmation
-confirmation-parts m identifier time =
-    ap (λ (x : List ℕ). x ++ field 0x60 (digits 6 time) ++ field 0x70 identifier) (sym (append-assoc (field 0x01 (ascii "6G2") ++ field 0x04 (ascii "01000")) (field 0x05 (bytesOf Sender m)) (field 0x22 (bytesOf Cro m))))
+confirmation-parts type sender cro last time =
+    ap (λ (x : List ℕ). x ++ field 0x60 (digits 6 time) ++ field 0x70 last) (sym (append-assoc (field 0x01 type ++ field 0x04 (ascii "01000")) (field 0x05 sender) (field 0x22 cro)))
 
 -- all lists of a table are w long: a test that antt computes
 abbrev allWide : ℕ → List (List ℕ) → Bool

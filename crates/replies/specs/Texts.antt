@@ -4,8 +4,6 @@ use mathlib.Core.List.{List, [], _∷_, _++_}
 use Prim.Native.Nat.{ℕ, suc}
 use Rattle.layout.specs.Fields.{field, oneOf}
 use Rattle.texts.specs.Texts.{ascii}
-use Rattle.envelope.specs.declared.application.Field.the-variants.{Sender, Cro}
-use Rattle.envelope.specs.Application.{bytesOf}
 use Rattle.rules.specs.Replies.{errorText}
 use Rattle.errors.specs.Listed.{named}
 
@@ -20,5 +18,5 @@ slashed [] = []
 slashed (code ∷ codes) = (ascii "/" ++ errorText (named code)) ++ slashed codes
 
 -- the sender and the CRO of a message as the recipient and the original CRO of its confirmation
-abbrev pub origin : List ℕ → List ℕ
-origin m = field 0x05 (bytesOf Sender m) ++ field 0x22 (bytesOf Cro m)
+abbrev pub origin : List ℕ → List ℕ → List ℕ
+origin sender cro = field 0x05 sender ++ field 0x22 cro

@@ -1,20 +1,16 @@
-// Replies written straight from a message that was found readable into a space with room for them.
+// Replies written straight from a message or its parts into a space with room for them.
 use digits::internal::put_digits;
-use envelope::application::Field;
-use envelope::internal::bytes_in;
 use errors::Errors;
 use layout::internal::put_field;
 use layout::internal::put_head;
 use output::internal::put;
 use output::internal::put_byte;
 ghost use mathlib.Core.Path.{_≡_};
-ghost use mathlib.Core.Bool.{true};
 ghost use Prim.Native.Nat.{_+_, _*_, _<_, _≤_, min};
 ghost use lib.ListN.{length, take, drop};
 ghost use Rattle.digits.specs.Decimal.{digits};
 ghost use Rattle.output.specs.Output.{Wrote};
-ghost use Rattle.layout.specs.Fields.{field, readable};
-ghost use Rattle.envelope.specs.Application.{layout6G1};
+ghost use Rattle.layout.specs.Fields.{field};
 ghost use Rattle.rules.specs.Replies.{confirmation, errorText, errorTexts, shown, returnedMessage};
 ghost use Rattle.errors.specs.Listed.{idcTable, idcIn, named, listed};
 ghost use Rattle.replies.specs.Texts.{rowIn, slashed, origin};
@@ -118,10 +114,9 @@ pub fn put_errors(space: &mut [u8], at: usize, e: Errors) -> usize
     put_texts(space, at, few)
 }
 
-// Writes a message and after it the two fields that say its errors.
+// Writes a message and after it the two fields that say its errors, which take up to 79 bytes.
 pub fn put_returned(space: &mut [u8], m: &[u8], e: Errors) -> usize
-    requires { ⌜ readable layout6G1 (now m) ≡ true ⌝ }
-    requires { ⌜ (1 ≤ e .n) × (e .n ≤ 16) × (418 ≤ length (now space)) ⌝ }
+    requires { ⌜ (1 ≤ e .n) × (e .n ≤ 16) × (length (now m) + 79 ≤ length (now space)) ⌝ }
     ensures { λ r. ⌜ Wrote (now (space .entry)) 0 (returnedMessage (now (m .entry)) (listed e)) (now (space .exit)) r ⌝ }
 {
     let banner = put(space, 0, m);
@@ -133,13 +128,10 @@ pub fn put_returned(space: &mut [u8], m: &[u8], e: Errors) -> usize
 }
 
 // Writes the sender and the CRO of a message as recipient and original CRO.
-fn put_origin(space: &mut [u8], at: usize, m: &[u8]) -> usize
-    requires { ⌜ readable layout6G1 (now m) ≡ true ⌝ }
-    requires { ⌜ at + 22 ≤ length (now space) ⌝ }
-    ensures { λ r. ⌜ Wrote (now (space .entry)) at (origin (now (m .entry))) (now (space .exit)) r × (r ≡ at + 22) ⌝ }
+fn put_origin(space: &mut [u8], at: usize, sender: &[u8], cro: &[u8]) -> usize
+    requires { ⌜ at + 6 + length (now sender) + length (now cro) ≤ length (now space) ⌝ }
+    ensures { λ r. ⌜ Wrote (now (space .entry)) at (origin (now (sender .entry)) (now (cro .entry))) (now (space .exit)) r × (r ≡ at + 6 + length (now (sender .entry)) + length (now (cro .entry))) ⌝ }
 {
-    let sender = bytes_in(m, Field::Sender);
-    let cro = bytes_in(m, Field::Cro);
     let original = put_field(space, at, 0x05, sender);
     put_field(space, original, 0x22, cro)
 }
@@ -153,15 +145,21 @@ fn put_time(space: &mut [u8], at: usize, time: u64) -> usize
     put_digits(space, start, 6, time)
 }
 
-// Writes the confirmation of a message.
-pub fn put_confirmation(space: &mut [u8], m: &[u8], identifier: &[u8], time: u64) -> usize
-    requires { ⌜ readable layout6G1 (now m) ≡ true ⌝ }
-    requires { ⌜ (length (now identifier) ≡ 11) × (59 ≤ length (now space)) ⌝ }
-    ensures { λ r. ⌜ Wrote (now (space .entry)) 0 (confirmation (now (identifier .entry)) (now (m .entry)) time) (now (space .exit)) r × (r ≡ 59) ⌝ }
+// Writes a confirmation: its type, the sender and the CRO of the message, the reception time, and what its last field holds.
+pub fn put_confirmation(
+    space: &mut [u8],
+    kind: &[u8],
+    sender: &[u8],
+    cro: &[u8],
+    time: u64,
+    last: &[u8],
+) -> usize
+    requires { ⌜ 29 + length (now kind) + length (now sender) + length (now cro) + length (now last) ≤ length (now space) ⌝ }
+    ensures { λ r. ⌜ Wrote (now (space .entry)) 0 (confirmation (now (kind .entry)) (now (sender .entry)) (now (cro .entry)) time (now (last .entry))) (now (space .exit)) r ⌝ }
 {
-    let sender = put_field(space, 0, 0x01, b"6G2");
-    let origin = put_field(space, sender, 0x04, b"01000");
-    let reception = put_origin(space, origin, m);
+    let treasury = put_field(space, 0, 0x01, kind);
+    let origin = put_field(space, treasury, 0x04, b"01000");
+    let reception = put_origin(space, origin, sender, cro);
     let tail = put_time(space, reception, time);
-    put_field(space, tail, 0x70, identifier)
+    put_field(space, tail, 0x70, last)
 }

@@ -3,22 +3,21 @@ use mathlib.Core.Path.{_≡_, refl, sym, _∙_, ap, ap₂, subst}
 use mathlib.Core.Bool.{Bool, true, false, cond, _&&_, _||_, and-false}
 use mathlib.Core.List.{List, [], _∷_, _++_, map, List·Memᴰ, List·Memᴰ·head, List·Memᴰ·tail}
 use mathlib.Core.Option.{none}
-use Prim.Native.Nat.{ℕ, zero, suc, _+_, _-_, _≤_, min}
-use native.Mathlib.Omega.{arith}
+use Prim.Native.Nat.{ℕ, _+_, _-_, _≤_}
 use lib.Dec.{eqb}
-use lib.ListN.{length, replicate}
+use lib.ListN.{length}
 use borrow.Author.Tests.{le-ltb}
 use Rattle.calendar.specs.Calendar.{validDate, validTime}
 use Rattle.laws.proofs.Tests.{or-left, or-right}
 use Rattle.layout.specs.Fields.{readable}
 use Rattle.envelope.specs.Refusals.{firstHolding}
 use Rattle.envelope.specs.Application.{layout6G1}
-use Rattle.rules.specs.Allotment.{Bid, noBid, filled, Offer, isIn, keep, total, awards, sum, totalIn}
-use Rattle.rules.specs.Opening.{Terms, any, openingRefused, termsOf, offerOf}
+use Rattle.rules.specs.Allotment.{Bid, awards, sum}
+use Rattle.rules.specs.Opening.{Admission, Terms, any, openingRefused, termsOf}
 use Rattle.rules.specs.Receiving.{Reception, Error, when, errors, isEmpty, isSound, Submission, submission, Entry, newBook, isAfter, isFrom, takes, hold, returnedErrors}
-use Rattle.rules.specs.Calls.{Open, Closed, Tender, inState, openTender, isRevoked, isOver, clockInvalid, spaceShort, beforeCutOff, isOpen, isAnnounced, bidsInBook, bidsExceed, receivingRefused, answerWith, bookAfter, answerUnless, receive, closingRefused, close, allottingRefused, places640, Allotted, allotment, allot}
+use Rattle.rules.specs.Calls.{Open, Closed, Tender, inState, openTender, isRevoked, isOver, clockInvalid, spaceShort, beforeCutOff, isOpen, isAnnounced, bidsInBook, bidsExceed, receivingRefused, answerWith, bookAfter, answerUnless, receive, closingRefused, close, allottingRefused, Allotted, allotment, allot}
 use Rattle.rules.specs.ArrivalOrder.{receiveAll, EnoughSpace, NoConflict, Rearranged, PastCutOff, afterReceptions, afterClosing, finalBids, allFinalBids, finalBook, Settled, ArrivalOrder, AnyLatest}
-use Rattle.rules.proofs.Sum.{awards-sum}
+use Rattle.rules.proofs.Links.{allotment-sum}
 use Rattle.rules.proofs.Rearranging.{mem-map, map-mem, rearranged-mem, rearranged-back, rearranged-map}
 use Rattle.rules.proofs.Events.{closed-not-exceeding}
 use Rattle.rules.proofs.Cancelling.{ten-places}
@@ -109,13 +108,13 @@ bids-final (c ∷ codes) ss = ap (λ (l : List Bid). finalBids c ss ++ l) (bids-
 ten-each : (t : Terms) (rs : List Reception) → TenBids (map (submission t) rs)
 ten-each t rs m k = let w = mem-map (submission t) rs k in ap (λ (s : Submission). length (s .bids)) (w .2) ∙ ten-places t (w .0)
 
-bids-after : (t : Terms) (rs : List Reception) → bidsInBook (holdAllIn (map (submission t) rs) (newBook (t .codes))) ≡ finalBook t rs
-bids-after t rs = ap bidsInBook (book-final (t .codes) (map (submission t) rs) (ten-each t rs)) ∙ bids-final (t .codes) (map (submission t) rs)
+bids-after : (t : Terms) (rs : List Reception) → bidsInBook (holdAllIn (map (submission t) rs) (newBook (t .admission .codes))) ≡ finalBook t rs
+bids-after t rs = ap bidsInBook (book-final (t .admission .codes) (map (submission t) rs) (ten-each t rs)) ∙ bids-final (t .admission .codes) (map (submission t) rs)
 
 -- what an accepted opening gives
-opened : (m codes : List ℕ) → openingRefused m codes ≡ none → openTender m codes .1 ≡ openWith (termsOf m codes) (newBook codes)
+opened : (m : List ℕ) (a : Admission) → openingRefused m a ≡ none → openTender m a .1 ≡ openWith (termsOf m a) (newBook (a .codes))
 unfolding openTender
-opened m codes h = rw h
+opened m a h = rw h
 
 -- closing past the cut-off, and allotting then
 module _ (t : Terms) (b : List Entry) (date time : ℕ) (past : PastCutOff t date time) where
@@ -143,33 +142,33 @@ module _ (t : Terms) (rs : List Reception) (agree : NoConflict t rs) where
   same-final : (rearranged : List Reception) → Rearranged rs rearranged → finalBook t rs ≡ finalBook t rearranged
   same-final rearranged p =
       sym (bids-after t rs)
-      ∙ ap bidsInBook (book-rearranged (t .codes) (map (submission t) rs) (map (submission t) rearranged) (ten-each t rs) agreeing (rearranged-map (submission t) p))
+      ∙ ap bidsInBook (book-rearranged (t .admission .codes) (map (submission t) rs) (map (submission t) rearranged) (ten-each t rs) agreeing (rearranged-map (submission t) p))
       ∙ bids-after t rearranged
 
 -- what holds after the receptions
-module _ (m codes : List ℕ) (h : openingRefused m codes ≡ none) (rs : List Reception) (room : EnoughSpace rs) (date time : ℕ) (past : PastCutOff (termsOf m codes) date time) where
+module _ (m : List ℕ) (a : Admission) (h : openingRefused m a ≡ none) (rs : List Reception) (room : EnoughSpace rs) (date time : ℕ) (past : PastCutOff (termsOf m a) date time) where
   book : List Entry
-  book = holdAllIn (map (submission (termsOf m codes)) rs) (newBook codes)
+  book = holdAllIn (map (submission (termsOf m a)) rs) (newBook (a .codes))
 
-  after-is : afterReceptions m codes rs ≡ openWith (termsOf m codes) book
+  after-is : afterReceptions m a rs ≡ openWith (termsOf m a) book
   unfolding book
-  after-is = ap (λ (x : Tender). receiveAll x rs) (opened m codes h) ∙ received-all (termsOf m codes) rs (newBook codes) room
+  after-is = ap (λ (x : Tender). receiveAll x rs) (opened m a h) ∙ received-all (termsOf m a) rs (newBook (a .codes)) room
 
-  bids-are : bidsInBook book ≡ finalBook (termsOf m codes) rs
+  bids-are : bidsInBook book ≡ finalBook (termsOf m a) rs
   unfolding book termsOf
-  bids-are = bids-after (termsOf m codes) rs
+  bids-are = bids-after (termsOf m a) rs
 
-  closed-is : afterClosing m codes rs date time ≡ inState Closed (openWith (termsOf m codes) book)
-  closed-is = ap (λ (x : Tender). close x date time .1) after-is ∙ closed (termsOf m codes) book date time past
+  closed-is : afterClosing m a rs date time ≡ inState Closed (openWith (termsOf m a) book)
+  closed-is = ap (λ (x : Tender). close x date time .1) after-is ∙ closed (termsOf m a) book date time past
 
-  accepted : allottingRefused (inState Closed (openWith (termsOf m codes) book)) ≡ none
-  accepted = allotting-accepted (termsOf m codes) book date time past (subst (λ (x : Tender). bidsExceed x ≡ false) closed-is (closed-not-exceeding m codes rs date time))
+  accepted : allottingRefused (inState Closed (openWith (termsOf m a) book)) ≡ none
+  accepted = allotting-accepted (termsOf m a) book date time past (subst (λ (x : Tender). bidsExceed x ≡ false) closed-is (closed-not-exceeding m a rs date time))
 
-  settled : Settled m codes rs date time (finalBook (termsOf m codes) rs)
+  settled : Settled m a rs date time (finalBook (termsOf m a) rs)
   unfolding close allot
   settled =
       record {
-        closes = ap (λ (x : Tender). closingRefused x date time) after-is ∙ closing-accepted (termsOf m codes) book date time past;
+        closes = ap (λ (x : Tender). closingRefused x date time) after-is ∙ closing-accepted (termsOf m a) book date time past;
         allots = ap allottingRefused closed-is ∙ accepted;
         awarded = ap (λ (x : Tender). allot x .2) closed-is ∙ rw (accepted, bids-are);
       }
@@ -182,34 +181,10 @@ any-latest t c rs agree r k f last =
     bound : (n : Submission) → (s : Reception) × List·Memᴰ s rs × (n ≡ submission t s) → isFrom c n ≡ true → n .time ≤ submission t r .time
     bound n w hf = subst (λ (x : Submission). x .time ≤ submission t r .time) (sym (w .2)) (last (w .0) (w .1) (subst (λ (x : Submission). isFrom c x ≡ true) (w .2) hf))
 
--- the empty places past the codes count for nothing
-empty-out : (o : Offer) (n : ℕ) → total (keep (isIn o) (replicate n noBid)) ≡ 0
-unfolding keep isIn filled total
-empty-out o zero = refl
-empty-out o (suc n) = empty-out o n
-
-in-append : (o : Offer) (xs ys : List Bid) → total (keep (isIn o) (xs ++ ys)) ≡ total (keep (isIn o) xs) + total (keep (isIn o) ys)
-unfolding keep total
-in-append o [] ys = omega arith
-in-append o (x ∷ xs) ys = go (isIn o x) refl (in-append o xs ys)
-  where
-    go : (t : Bool) → isIn o x ≡ t → total (keep (isIn o) (xs ++ ys)) ≡ total (keep (isIn o) xs) + total (keep (isIn o) ys)
-        → total (cond (isIn o x) (x ∷ keep (isIn o) (xs ++ ys)) (keep (isIn o) (xs ++ ys))) ≡ total (cond (isIn o x) (x ∷ keep (isIn o) xs) (keep (isIn o) xs)) + total (keep (isIn o) ys)
-    go true e ih = rw e (omega arith)
-    go false e ih = rw e ih
-
-padded-in : (o : Offer) (bs : List Bid) → totalIn o (places640 bs) ≡ totalIn o bs
-unfolding totalIn places640
-padded-in o bs = in-append o bs (replicate (640 - length bs) noBid) ∙ omega (arith, empty-out o (640 - length bs))
-
 pub arrival-order : ArrivalOrder
-arrival-order m codes h rs rearranged room agree p date time date₂ time₂ past past₂ =
-    let t = termsOf m codes in
-    let a = settled m codes h rs room date time past in
-    let b = settled m codes h rearranged (λ r k. room r (rearranged-mem (rearranged-back p) k)) date₂ time₂ past₂ in
-    let c : Settled m codes rearranged date₂ time₂ (finalBook t rs) = subst (Settled m codes rearranged date₂ time₂) (sym (same-final t rs agree rearranged p)) b in (
-      a,
-      c,
-      c .awarded ∙ sym (a .awarded),
-      ap (λ (x : Allotted). sum (x .awards)) (a .awarded) ∙ unfold allotment in (awards-sum (offerOf t) (places640 (finalBook t rs)) ∙ ap (min (t .offered)) (padded-in (offerOf t) (finalBook t rs))),
-    )
+arrival-order m a h rs rearranged room agree p date time date₂ time₂ past past₂ =
+    let t = termsOf m a in
+    let x = settled m a h rs room date time past in
+    let y = settled m a h rearranged (λ r k. room r (rearranged-mem (rearranged-back p) k)) date₂ time₂ past₂ in
+    let z : Settled m a rearranged date₂ time₂ (finalBook t rs) = subst (Settled m a rearranged date₂ time₂) (sym (same-final t rs agree rearranged p)) y in
+    (x, z, z .awarded ∙ sym (x .awarded), ap (λ (y : Allotted). sum (y .awards)) (x .awarded) ∙ allotment-sum t (finalBook t rs))

@@ -13,7 +13,7 @@ use Rattle.envelope.specs.declared.application.Field.the-variants.{Bids}
 use Rattle.envelope.specs.Application.{bytesOf}
 use Rattle.rules.specs.Allotment.{Bid, noBid, filled}
 use Rattle.rules.specs.Opening.{Terms, any}
-use Rattle.rules.specs.Receiving.{Reception, messagePlaces, bidOf, messageBids, Submission, submission, cancels, tenZeros, hold}
+use Rattle.rules.specs.Receiving.{Reception, bidOf, bidsIn, Submission, submission, cancels, tenZeros, hold}
 use Rattle.rules.specs.ArrivalOrder.{bidsOfLatest}
 use Rattle.rules.specs.Theorems.{CancelsWithTenZeros, CancellingHoldsZeros}
 
@@ -24,7 +24,7 @@ places-length zero s = refl
 places-length (suc n) s = ap suc (places-length n (drop 24 s))
 
 pub ten-places : (t : Terms) (r : Reception) → length (submission t r .bids) ≡ 10
-unfolding submission messageBids messagePlaces
+unfolding submission bidsIn
 ten-places t r = places-length 10 (bytesOf Bids (r .message))
 
 -- where no place is filled, all are zeros

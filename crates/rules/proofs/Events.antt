@@ -17,13 +17,14 @@ use Rattle.envelope.specs.declared.application.Field.the-variants.{Bids}
 use Rattle.envelope.specs.Refusals.{unlessRefused}
 use Rattle.envelope.specs.Application.{bytesOf}
 use Rattle.rules.specs.Allotment.{Bid, noBid, total}
-use Rattle.rules.specs.Opening.{Terms, rising, openingRefused, termsOf}
-use Rattle.rules.specs.Receiving.{Reception, bidOf, messagePlaces, messageBids, Error, Submission, submission, Entry, newEntry, newBook, takes, hold, returnedErrors}
+use Rattle.rules.specs.Opening.{Admission, Terms, rising, openingRefused, termsOf}
+use Rattle.rules.specs.Receiving.{Reception, bidOf, bidsIn, Error, Submission, submission, Entry, newEntry, newBook, takes, hold, returnedErrors}
 use Rattle.rules.specs.Calls.{State, Open, Closed, Announced, Revoked, Tender, inState, noTender, openTender, bidsInBook, bidsExceed, receivingRefused, bookAfter, answerWith, answerUnless, receive, closingRefused, close, allottingRefused, allot, revokingRefused, revoke}
 use Rattle.rules.specs.Events.{Event, receiveEvent, closeEvent, allotEvent, revokeEvent, nextTender, afterEvents, TenBids, entryCode, Kept}
 use Rattle.rules.specs.ArrivalOrder.{receiveAll, afterClosing}
 use Rattle.rules.specs.Theorems.{EventsKeep, KeptIsBounded, BidsNeverExceed}
 use Rattle.rules.proofs.Opening.{few-codes, rising-codes}
+use Rattle.rules.proofs.Cancelling.{ten-places}
 use Rattle.rules.proofs.Rearranging.{mem-map}
 
 -- the bids of a message
@@ -46,14 +47,9 @@ places-within zero s b k = absurd (List·Memᴰ·not-nil k)
 places-within (suc n) s b (List·Memᴰ·head e) = subst (λ (x : Bid). x .amount ≤ 999999999999999) (sym e) (amount-below (take 24 s))
 places-within (suc n) s b (List·Memᴰ·tail k) = places-within n (drop 24 s) b k
 
-places-count : (n : ℕ) (s : List ℕ) → length (map bidOf (placesIn n s)) ≡ n
-unfolding placesIn
-places-count zero s = refl
-places-count (suc n) s = ap suc (places-count n (drop 24 s))
-
 submitted-ten : (t : Terms) (r : Reception) → TenBids (submission t r .bids)
-unfolding submission messageBids messagePlaces
-submitted-ten t r = record { ten = places-count 10 (bytesOf Bids (r .message)); within = places-within 10 (bytesOf Bids (r .message)) }
+unfolding submission bidsIn
+submitted-ten t r = record { ten = ten-places t r; within = places-within 10 (bytesOf Bids (r .message)) }
 
 -- a newly opened tender
 zeros-within : (n : ℕ) (b : Bid) → List·Memᴰ b (replicate n noBid) → b .amount ≤ 999999999999999
@@ -72,17 +68,17 @@ new-each codes e k =
     let w = mem-map newEntry codes k in
     subst (λ (x : Entry). TenBids (x .bids)) (sym (w .2)) (record { ten = refl; within = zeros-within 10 })
 
-kept-opened : (m codes : List ℕ) → Kept (openTender m codes .1)
+pub kept-opened : (m : List ℕ) (a : Admission) → Kept (openTender m a .1)
 unfolding openTender rising
-kept-opened m codes = go (openingRefused m codes) refl
+kept-opened m a = go (openingRefused m a) refl
   where
-    go : (o : Option ℕ) → openingRefused m codes ≡ o → Kept (unlessRefused o noTender (record { terms = termsOf m codes; state = Open; book = newBook codes }))
+    go : (o : Option ℕ) → openingRefused m a ≡ o → Kept (unlessRefused o noTender (record { terms = termsOf m a; state = Open; book = newBook (a .codes) }))
     go none e =
         record {
-          rises = unfold termsOf in rising-codes m codes e;
-          entries = unfold termsOf in new-codes codes;
-          few = unfold newBook in subst (λ (n : ℕ). n ≤ 64) (sym (length-map codes newEntry)) (few-codes m codes e);
-          each = new-each codes;
+          rises = unfold termsOf in rising-codes m a e;
+          entries = unfold termsOf in new-codes (a .codes);
+          few = unfold newBook in subst (λ (n : ℕ). n ≤ 64) (sym (length-map (a .codes) newEntry)) (few-codes m a e);
+          each = new-each (a .codes);
         }
     go (some n) e = record { rises = refl; entries = refl; few = omega arith; each = λ x k. absurd (List·Memᴰ·not-nil k) }
 
@@ -109,7 +105,7 @@ hold-ten s k e h = go (takes s e)
 
 -- each call on a tender that is kept
 module _ (t : Tender) (k : Kept t) where
-  kept-answered : (es : List Error) (r : Reception) → Kept (answerWith es t r .1)
+  pub kept-answered : (es : List Error) (r : Reception) → Kept (answerWith es t r .1)
   unfolding answerWith bookAfter
   kept-answered [] r =
       let s = submission (t .terms) r in
@@ -131,7 +127,7 @@ module _ (t : Tender) (k : Kept t) where
       go none = kept-answered (returnedErrors (t .terms) (t .book) r) r
       go (some n) = k
 
-  kept-unless : (o : Option ℕ) (s : State) → Kept (unlessRefused o t (inState s t))
+  pub kept-unless : (o : Option ℕ) (s : State) → Kept (unlessRefused o t (inState s t))
   kept-unless none s = record { rises = k .rises; entries = k .entries; few = k .few; each = k .each }
   kept-unless (some n) s = k
 
@@ -160,7 +156,7 @@ kept-after t [] k = k
 kept-after t (e ∷ es) k = kept-after (nextTender t e) es (kept-next t k e)
 
 pub events-keep : EventsKeep
-events-keep m codes es = kept-after (openTender m codes .1) es (kept-opened m codes)
+events-keep m a es = kept-after (openTender m a .1) es (kept-opened m a)
 
 -- 64 entries of ten bids of fifteen digits
 total-append : (xs ys : List Bid) → total (xs ++ ys) ≡ total xs + total ys
@@ -190,7 +186,7 @@ unfolding bidsExceed
 not-exceeding t k = let h = kept-is-bounded t k in le-ltb 999999999999999999 (total (bidsInBook (t .book))) (omega arith)
 
 pub bids-never-exceed : BidsNeverExceed
-bids-never-exceed m codes es = not-exceeding (afterEvents (openTender m codes .1) es) (events-keep m codes es)
+bids-never-exceed m a es = not-exceeding (afterEvents (openTender m a .1) es) (events-keep m a es)
 
 -- receptions and a closeEvent are events
 receptions-are-events : (t : Tender) (rs : List Reception) (es : List Event) → afterEvents t (map receiveEvent rs ++ es) ≡ afterEvents (receiveAll t rs) es
@@ -198,9 +194,9 @@ unfolding afterEvents nextTender receiveAll
 receptions-are-events t [] es = refl
 receptions-are-events t (r ∷ rs) es = receptions-are-events (receive t r .1) rs es
 
-pub closed-not-exceeding : (m codes : List ℕ) (rs : List Reception) (date time : ℕ) → bidsExceed (afterClosing m codes rs date time) ≡ false
+pub closed-not-exceeding : (m : List ℕ) (a : Admission) (rs : List Reception) (date time : ℕ) → bidsExceed (afterClosing m a rs date time) ≡ false
 unfolding afterEvents nextTender
-closed-not-exceeding m codes rs date time =
+closed-not-exceeding m a rs date time =
     subst (λ (x : Tender). bidsExceed x ≡ false)
-    (receptions-are-events (openTender m codes .1) rs (closeEvent date time ∷ []))
-    (bids-never-exceed m codes (map receiveEvent rs ++ (closeEvent date time ∷ [])))
+    (receptions-are-events (openTender m a .1) rs (closeEvent date time ∷ []))
+    (bids-never-exceed m a (map receiveEvent rs ++ (closeEvent date time ∷ [])))

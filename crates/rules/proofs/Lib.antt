@@ -4,12 +4,14 @@ pub mod ByRates
 pub mod Best
 pub mod Division
 pub mod Sum
+pub mod Absent
+pub mod Links
 pub mod Walk
 pub mod Bound
 pub mod Rearranging
 pub mod Opening
-pub mod Events
 pub mod Cancelling
+pub mod Events
 pub mod Book
 pub mod ArrivalOrder
 pub mod Theorems

@@ -10,7 +10,7 @@ use lib.ListN.{length}
 use borrow.Author.Tests.{ltb-false, not-false}
 use Rattle.laws.proofs.Tests.{or-left, or-right}
 use Rattle.envelope.specs.Refusals.{firstHolding}
-use Rattle.rules.specs.Opening.{any, notAnnouncement, otherOrigin, malformedAnnouncement, unknownType, impossibleNumbers, datesDisordered, badCodes, rising, openingRefused}
+use Rattle.rules.specs.Opening.{Admission, any, notAnnouncement, otherOrigin, malformedAnnouncement, unknownType, impossibleNumbers, datesDisordered, badCodes, rising, openingRefused}
 
 pub next-condition : (n : ℕ) (b : Bool) (rest : List (ℕ × Bool)) → firstHolding ((n, b) ∷ rest) ≡ none → (b ≡ false) × (firstHolding rest ≡ none)
 unfolding firstHolding
@@ -18,7 +18,10 @@ next-condition n false rest h = (refl, h)
 next-condition n true rest h = absurd (let z : _≡_ {A = ℕ} 0 1 = cc in omega arith)
 
 -- so that there are at most 64 codes, and they rise
-module _ (m codes : List ℕ) (h : openingRefused m codes ≡ none) where
+module _ (m : List ℕ) (a : Admission) (h : openingRefused m a ≡ none) where
+  abbrev codes : List ℕ
+  codes = a .codes
+
   codes-good : badCodes codes ≡ false
   unfolding openingRefused
   codes-good =

@@ -8,7 +8,7 @@ use lib.Dec.{ltb}
 use lib.ListN.{length}
 use Rattle.calendar.specs.Calendar.{validDate, validTime, later}
 use Rattle.rules.specs.Allotment.{Bid, keep, awards, sum, totalIn}
-use Rattle.rules.specs.Opening.{Terms, openingRefused, termsOf, offerOf}
+use Rattle.rules.specs.Opening.{Admission, Terms, openingRefused, termsOf, offerOf}
 use Rattle.rules.specs.Receiving.{Reception, Submission, submission, cancels, tenZeros, isFrom}
 use Rattle.rules.specs.Calls.{Tender, openTender, receive, close, allot, allotment}
 
@@ -45,11 +45,11 @@ abbrev pub PastCutOff : Terms → ℕ → ℕ → Type 0
 PastCutOff t date time = (validDate date ≡ true) × (validTime time ≡ true) × (later date time (t .execution) (t .cutOff) ≡ true)
 
 -- 'from a newly opened tender': the tender after the receptions, and after closing
-abbrev pub afterReceptions : List ℕ → List ℕ → List Reception → Tender
-afterReceptions m codes rs = receiveAll (openTender m codes .1) rs
+abbrev pub afterReceptions : List ℕ → Admission → List Reception → Tender
+afterReceptions m a rs = receiveAll (openTender m a .1) rs
 
-abbrev pub afterClosing : List ℕ → List ℕ → List Reception → ℕ → ℕ → Tender
-afterClosing m codes rs date time = close (afterReceptions m codes rs) date time .1
+abbrev pub afterClosing : List ℕ → Admission → List Reception → ℕ → ℕ → Tender
+afterClosing m a rs date time = close (afterReceptions m a rs) date time .1
 
 -- 'its sound message with the latest reference time': one that no other is later than
 unfoldable pub laterOf : Submission → Option Submission → Option Submission
@@ -75,35 +75,35 @@ allFinalBids [] ss = []
 allFinalBids (c ∷ codes) ss = finalBids c ss ++ allFinalBids codes ss
 
 abbrev pub finalBook : Terms → List Reception → List Bid
-finalBook t rs = allFinalBids (t .codes) (map (submission t) rs)
+finalBook t rs = allFinalBids (t .admission .codes) (map (submission t) rs)
 
 -- what holds after the receptions and closing at a clock reading
-pub record Settled (m codes : List ℕ) (rs : List Reception) (date time : ℕ) (final : List Bid) : Type 0 where
+pub record Settled (m : List ℕ) (a : Admission) (rs : List Reception) (date time : ℕ) (final : List Bid) : Type 0 where
   -- closing is not refused
-  pub closes : close (afterReceptions m codes rs) date time .0 ≡ none
+  pub closes : close (afterReceptions m a rs) date time .0 ≡ none
   -- allotting is not refused
-  pub allots : allot (afterClosing m codes rs date time) .0 ≡ none
+  pub allots : allot (afterClosing m a rs date time) .0 ≡ none
   -- 'They are document 01's for the final bids'
-  pub awarded : allot (afterClosing m codes rs date time) .2 ≡ allotment (termsOf m codes) final
+  pub awarded : allot (afterClosing m a rs date time) .2 ≡ allotment (termsOf m a) final
 
 -- The demand, for every announcement and admitted list that opening accepts
 abbrev pub ArrivalOrder : Type 0
 ArrivalOrder =
-    (m codes : List ℕ)
-    → openingRefused m codes ≡ none
+    (m : List ℕ) (a : Admission)
+    → openingRefused m a ≡ none
     → (rs rearranged : List Reception)
     → EnoughSpace rs
-    → NoConflict (termsOf m codes) rs
+    → NoConflict (termsOf m a) rs
     → Rearranged rs rearranged
     → (date time date₂ time₂ : ℕ)
-    → PastCutOff (termsOf m codes) date time
-    → PastCutOff (termsOf m codes) date₂ time₂
+    → PastCutOff (termsOf m a) date time
+    → PastCutOff (termsOf m a) date₂ time₂
     -- awards and marginal rate are those of the final bids, and 'the same awards and the same marginal rate' after the rearrangement
-    → Settled m codes rs date time (finalBook (termsOf m codes) rs)
-    × Settled m codes rearranged date₂ time₂ (finalBook (termsOf m codes) rs)
-    × (allot (afterClosing m codes rearranged date₂ time₂) .2 ≡ allot (afterClosing m codes rs date time) .2)
+    → Settled m a rs date time (finalBook (termsOf m a) rs)
+    × Settled m a rearranged date₂ time₂ (finalBook (termsOf m a) rs)
+    × (allot (afterClosing m a rearranged date₂ time₂) .2 ≡ allot (afterClosing m a rs date time) .2)
     -- 'The awards add up to the smaller of the amount offered and all final bids within the limit rate.'
-    × (sum (allot (afterClosing m codes rs date time) .2 .awards) ≡ min (termsOf m codes .offered) (totalIn (offerOf (termsOf m codes)) (finalBook (termsOf m codes) rs)))
+    × (sum (allot (afterClosing m a rs date time) .2 .awards) ≡ min (termsOf m a .offered) (totalIn (offerOf (termsOf m a)) (finalBook (termsOf m a) rs)))
 
 -- any sound message of a counterparty that no other is later than gives its final bids
 abbrev pub AnyLatest : Type 0

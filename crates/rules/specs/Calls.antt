@@ -6,10 +6,12 @@ use Prim.Native.Nat.{ℕ, _-_}
 use lib.Dec.{ltb}
 use lib.ListN.{length, drop, replicate}
 use Rattle.calendar.specs.Calendar.{validDate, validTime, later}
+use Rattle.texts.specs.Texts.{ascii}
 use Rattle.envelope.specs.Refusals.{firstHolding, unlessRefused}
-use Rattle.envelope.specs.Application.{unreadable}
-use Rattle.rules.specs.Allotment.{Bid, noBid, total, awards, marginalRate}
-use Rattle.rules.specs.Opening.{Terms, openingRefused, termsOf, noTerms, offerOf}
+use Rattle.envelope.specs.declared.application.Field.the-variants.{Sender, Cro}
+use Rattle.envelope.specs.Application.{bytesOf, unreadable}
+use Rattle.rules.specs.Allotment.{Bid, total, awards, marginalRate}
+use Rattle.rules.specs.Opening.{Admission, Terms, openingRefused, termsOf, noTerms, offerOf}
 use Rattle.rules.specs.Receiving.{Reception, Error, Entry, submission, newBook, hold, returnedErrors}
 use Rattle.rules.specs.Replies.{confirmation, returnedMessage}
 
@@ -30,19 +32,19 @@ inState s t = record { terms = t .terms; state = s; book = t .book }
 abbrev pub noTender : Tender
 noTender = record { terms = noTerms; state = Revoked; book = [] }
 
-unfoldable pub openTender : List ℕ → List ℕ → Option ℕ × Tender
-openTender m codes = (
-  openingRefused m codes,
-  unlessRefused (openingRefused m codes) noTender (record { terms = termsOf m codes; state = Open; book = newBook codes }),
+unfoldable pub openTender : List ℕ → Admission → Option ℕ × Tender
+openTender m a = (
+  openingRefused m a,
+  unlessRefused (openingRefused m a) noTender (record { terms = termsOf m a; state = Open; book = newBook (a .codes) }),
 )
 
 -- '8. The tender is revoked.'
-unfoldable pub isRevoked : Tender → Bool
-isRevoked t = elim (t .state) [ Open ↦ false | Closed ↦ false | Announced ↦ false | Revoked ↦ true ]
+unfoldable pub isRevoked : State → Bool
+isRevoked s = elim s [ Open ↦ false | Closed ↦ false | Announced ↦ false | Revoked ↦ true ]
 
 -- '9. It is closed or announced.'
-unfoldable pub isOver : Tender → Bool
-isOver t = elim (t .state) [ Open ↦ false | Closed ↦ true | Announced ↦ true | Revoked ↦ false ]
+unfoldable pub isOver : State → Bool
+isOver s = elim s [ Open ↦ false | Closed ↦ true | Announced ↦ true | Revoked ↦ false ]
 
 -- '10. The clock's date or time is invalid.'
 unfoldable pub clockInvalid : ℕ → ℕ → Bool
@@ -57,12 +59,12 @@ unfoldable pub beforeCutOff : Terms → ℕ → ℕ → Bool
 beforeCutOff t date time = not (later date time (t .execution) (t .cutOff))
 
 -- '14. The tender is open.'
-unfoldable pub isOpen : Tender → Bool
-isOpen t = elim (t .state) [ Open ↦ true | Closed ↦ false | Announced ↦ false | Revoked ↦ false ]
+unfoldable pub isOpen : State → Bool
+isOpen s = elim s [ Open ↦ true | Closed ↦ false | Announced ↦ false | Revoked ↦ false ]
 
 -- '15. It is announced.'
-unfoldable pub isAnnounced : Tender → Bool
-isAnnounced t = elim (t .state) [ Open ↦ false | Closed ↦ false | Announced ↦ true | Revoked ↦ false ]
+unfoldable pub isAnnounced : State → Bool
+isAnnounced s = elim s [ Open ↦ false | Closed ↦ false | Announced ↦ true | Revoked ↦ false ]
 
 -- the bids of the book in book order: 'rising code, then place'
 unfoldable pub bidsInBook : List Entry → List Bid
@@ -77,8 +79,8 @@ bidsExceed t = ltb 999999999999999999 (total (bidsInBook (t .book)))
 unfoldable pub receivingRefused : Tender → Reception → Option ℕ
 receivingRefused t r =
     firstHolding
-    ((8, isRevoked t)
-    ∷ (9, isOver t)
+    ((8, isRevoked (t .state))
+    ∷ (9, isOver (t .state))
     ∷ (10, clockInvalid (r .date) (r .time))
     ∷ (11, spaceShort (r .space))
     ∷ (12, unreadable (r .message))
@@ -96,7 +98,7 @@ inSpace reply space = reply ++ drop (length reply) space
 
 -- 'An accepted message gets a confirmation; one with errors gets RE01'
 unfoldable pub reply : List Error → List ℕ → List ℕ → ℕ → List ℕ
-reply [] identifier m time = confirmation identifier m time
+reply [] identifier m time = confirmation (ascii "6G2") (bytesOf Sender m) (bytesOf Cro m) time identifier
 reply (e ∷ es) identifier m time = returnedMessage m (e ∷ es)
 
 -- '.. and changes nothing in the tender'
@@ -125,18 +127,34 @@ receive t r = answerUnless (receivingRefused t r) t r
 -- 'closing 8, 9, 10, 13'
 unfoldable pub closingRefused : Tender → ℕ → ℕ → Option ℕ
 closingRefused t date time =
-    firstHolding ((8, isRevoked t) ∷ (9, isOver t) ∷ (10, clockInvalid date time) ∷ (13, beforeCutOff (t .terms) date time) ∷ [])
+    firstHolding ((8, isRevoked (t .state)) ∷ (9, isOver (t .state)) ∷ (10, clockInvalid date time) ∷ (13, beforeCutOff (t .terms) date time) ∷ [])
 
 unfoldable pub close : Tender → ℕ → ℕ → Option ℕ × Tender
 close t date time = (closingRefused t date time, unlessRefused (closingRefused t date time) t (inState Closed t))
 
 -- 'allotting 8, 14, 15, 16'
 unfoldable pub allottingRefused : Tender → Option ℕ
-allottingRefused t = firstHolding ((8, isRevoked t) ∷ (14, isOpen t) ∷ (15, isAnnounced t) ∷ (16, bidsExceed t) ∷ [])
+allottingRefused t = firstHolding ((8, isRevoked (t .state)) ∷ (14, isOpen (t .state)) ∷ (15, isAnnounced (t .state)) ∷ (16, bidsExceed t) ∷ [])
+
+-- from the bids of a book, in book order, to what allotting gives: the bids that it takes, which are all of them
+unfoldable pub bidsTaken : Terms → List Bid → List Bid
+bidsTaken t bs = bs
+
+-- their awards
+unfoldable pub bidAwards : Terms → List Bid → List ℕ
+bidAwards t bs = awards (offerOf t) (bidsTaken t bs)
+
+-- the awards as they are given
+unfoldable pub awardsGiven : Terms → List Bid → List ℕ
+awardsGiven t bs = bidAwards t bs
+
+-- the marginal rate
+unfoldable pub marginalGiven : Terms → List Bid → Option ℕ
+marginalGiven t bs = marginalRate (offerOf t) (bidsTaken t bs)
 
 -- 'the awards, 640 places in book order (places of absent codes zero)'
-unfoldable pub places640 : List Bid → List Bid
-places640 bs = bs ++ replicate (640 - length bs) noBid
+unfoldable pub in640 : List ℕ → List ℕ
+in640 xs = xs ++ replicate (640 - length xs) 0
 
 -- what allotting gives: awards and marginal rate, zeros and none where it is refused
 pub record Allotted : Type 0 where
@@ -147,7 +165,7 @@ abbrev pub notAllotted : Allotted
 notAllotted = record { awards = replicate 640 0; marginal = none }
 
 unfoldable pub allotment : Terms → List Bid → Allotted
-allotment t bs = record { awards = awards (offerOf t) (places640 bs); marginal = marginalRate (offerOf t) (places640 bs) }
+allotment t bs = record { awards = in640 (awardsGiven t bs); marginal = marginalGiven t bs }
 
 unfoldable pub allot : Tender → Option ℕ × Tender × Allotted
 allot t = (
@@ -158,7 +176,7 @@ allot t = (
 
 -- 'revoking 8, 15'
 unfoldable pub revokingRefused : Tender → Option ℕ
-revokingRefused t = firstHolding ((8, isRevoked t) ∷ (15, isAnnounced t) ∷ [])
+revokingRefused t = firstHolding ((8, isRevoked (t .state)) ∷ (15, isAnnounced (t .state)) ∷ [])
 
 unfoldable pub revoke : Tender → Option ℕ × Tender
 revoke t = (revokingRefused t, unlessRefused (revokingRefused t) t (inState Revoked t))

@@ -37,7 +37,7 @@ entryCode e = e .code
 
 -- 'what holds of all those may be relied on': the codes rise, the book has an entry for each of them, at most 64, and each entry ten bids
 pub record Kept (t : Tender) : Type 0 where
-  pub rises : rising (t .terms .codes) ≡ true
-  pub entries : map entryCode (t .book) ≡ t .terms .codes
+  pub rises : rising (t .terms .admission .codes) ≡ true
+  pub entries : map entryCode (t .book) ≡ t .terms .admission .codes
   pub few : length (t .book) ≤ 64
   pub each : (e : Entry) → List·Memᴰ e (t .book) → TenBids (e .bids)

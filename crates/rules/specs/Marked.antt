@@ -13,7 +13,7 @@ use Rattle.rules.specs.Opening.{openingRefused, offerOf}
 use Rattle.rules.specs.Receiving.{Reception, Error, errors, submission, cancels}
 use Rattle.rules.specs.Calls.{Tender, Answer, confirmed, returned, refused, openTender, receive, bidsInBook, allotment}
 use Rattle.rules.specs.ArrivalOrder.{receiveAll}
-use Rattle.rules.specs.Messages.{announcement, admitted, terms, Pairs, message, reception}
+use Rattle.rules.specs.Messages.{announcement, admission, terms, Pairs, message, reception}
 
 -- the codes of the errors of a message
 abbrev pub code : Error → ℕ
@@ -36,7 +36,7 @@ worked =
     ∷ []
 
 unfoldable pub tenderAfter : List Reception → Tender
-tenderAfter rs = receiveAll (openTender announcement admitted .1) rs
+tenderAfter rs = receiveAll (openTender announcement admission .1) rs
 
 -- what a reception is answered after others, as a number: 0 confirmed, else the first error's code, or the refusal
 unfoldable pub answerCode : Answer → ℕ
@@ -88,7 +88,7 @@ workedAwards = awards (offerOf terms) (bidsInBook (tenderAfter worked .book))
 unfoldable pub table : List Row
 table =
     -- the announcement opens a tender
-    row 0 (listOf (openingRefused announcement admitted)) []
+    row 0 (listOf (openingRefused announcement admission)) []
     -- M1 received 110000 in time, 110001 gives 301
     ∷ row 1 (errorCodes (reception 110000 (message 90001 102900 ((120000, 10000) ∷ [])))) []
     ∷ row 1 (errorCodes (reception 110001 (message 90001 102900 ((120000, 10000) ∷ [])))) (301 ∷ [])

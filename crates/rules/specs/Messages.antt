@@ -13,7 +13,7 @@ use Rattle.envelope.specs.declared.application.Application.{Application}
 use Rattle.envelope.specs.Application.{layout6G1, position as applicationPosition, texts, written}
 use Rattle.announcement.specs.declared.Field.{Field as AnnouncementField}
 use Rattle.announcement.specs.Announcement.{layout6G0, position as announcementPosition}
-use Rattle.rules.specs.Opening.{Terms, termsOf}
+use Rattle.rules.specs.Opening.{Admission, admitting, Terms, termsOf}
 use Rattle.rules.specs.Receiving.{Reception}
 
 infix 68 _is_
@@ -87,8 +87,11 @@ announcement = announcementWith [] []
 abbrev pub admitted : List ℕ
 admitted = 90001 ∷ 90002 ∷ 90003 ∷ []
 
+abbrev pub admission : Admission
+admission = admitting admitted
+
 unfoldable pub terms : Terms
-terms = termsOf announcement admitted
+terms = termsOf announcement admission
 
 -- bids from the first place on, and zeros in the places after them
 abbrev pub Pairs : Type 0

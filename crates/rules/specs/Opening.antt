@@ -22,7 +22,14 @@ use Rattle.announcement.specs.declared.Announcement.{Announcement}
 use Rattle.announcement.specs.Announcement.{layout6G0, bytesOf, announcementOf, datesOrdered}
 use Rattle.rules.specs.Allotment.{Offer}
 
--- what a tender keeps of its announcement, and the admitted codes
+-- 'the admitted list': the codes of those who may bid
+pub record Admission : Type 0 where
+  pub codes : List ℕ
+
+abbrev pub admitting : List ℕ → Admission
+admitting codes = record { codes = codes }
+
+-- what a tender keeps of its announcement, and who is admitted to it
 pub record Terms : Type 0 where
   pub identifier : List ℕ
   pub side : Side
@@ -35,7 +42,7 @@ pub record Terms : Type 0 where
   pub maximum : ℕ
   pub allocation : ℕ
   pub limit : ℕ
-  pub codes : List ℕ
+  pub admission : Admission
 
 -- a field that is a date, a time
 abbrev pub isDate : Digits → Bool
@@ -112,8 +119,8 @@ unfoldable pub badCodes : List ℕ → Bool
 badCodes codes = eqb (length codes) 0 || ltb 64 (length codes) || not (rising codes) || any (ltb 99999) codes
 
 -- 'Opening checks 1 to 7'
-unfoldable pub openingRefused : List ℕ → List ℕ → Option ℕ
-openingRefused m codes =
+unfoldable pub openingRefused : List ℕ → Admission → Option ℕ
+openingRefused m a =
     firstHolding
     ((1, notAnnouncement m)
     ∷ (2, otherOrigin m)
@@ -121,7 +128,7 @@ openingRefused m codes =
     ∷ (4, unknownType m)
     ∷ (5, impossibleNumbers m)
     ∷ (6, datesDisordered m)
-    ∷ (7, badCodes codes)
+    ∷ (7, badCodes (a .codes))
     ∷ [])
 
 -- the side of a type; an unknown type opens no tender
@@ -129,8 +136,8 @@ abbrev pub sideOf : Kind → Side
 sideOf Unknown = La
 sideOf (Tender s y) = s
 
-unfoldable pub termsOf : List ℕ → List ℕ → Terms
-termsOf m codes =
+unfoldable pub termsOf : List ℕ → Admission → Terms
+termsOf m a =
     record {
       identifier = bytesOf Identifier m;
       side = sideOf (announcementOf m .kind);
@@ -143,10 +150,10 @@ termsOf m codes =
       maximum = announcementOf m .characteristics .maximum .0;
       allocation = announcementOf m .characteristics .allocation .0;
       limit = announcementOf m .characteristics .limit .0;
-      codes = codes;
+      admission = a;
     }
 
--- the terms of the tender that a refused opening gives back: zeros, and no code
+-- the terms of the tender that a refused opening gives back: zeros, and nobody admitted
 abbrev pub noTerms : Terms
 noTerms =
     record {
@@ -161,7 +168,7 @@ noTerms =
       maximum = 0;
       allocation = 0;
       limit = 0;
-      codes = [];
+      admission = admitting [];
     }
 
 abbrev pub offerOf : Terms → Offer

@@ -7,14 +7,14 @@ use Rattle.texts.specs.Texts.{ascii}
 use Rattle.announcement.specs.declared.Field.{Field}
 use Rattle.announcement.specs.declared.Field.the-variants.{MessageType, Sender, Recipient, Cro, Date, Time, Identifier, TenderType, SpotDate, ForwardDate, Cutoff}
 use Rattle.rules.specs.Allotment.{isIn}
-use Rattle.rules.specs.Opening.{Terms, openingRefused, termsOf, offerOf}
+use Rattle.rules.specs.Opening.{admitting, Terms, openingRefused, termsOf, offerOf}
 use Rattle.rules.specs.Calls.{openTender}
-use Rattle.rules.specs.Messages.{_is_, Part, Execution, Most, Offered, Minimum, Increment, Maximum, Allocation, Limit, announcementWith, announcement, admitted, message}
+use Rattle.rules.specs.Messages.{_is_, Part, Execution, Most, Offered, Minimum, Increment, Maximum, Allocation, Limit, announcementWith, announcement, admitted, admission, message}
 use Rattle.rules.specs.Marked.{Row, row, listOf, bid}
 
 -- the refusal of opening: of some bytes, and of the announcement with some texts altered
 abbrev pub opening : List ℕ → List ℕ → List ℕ
-opening m codes = listOf (openingRefused m codes)
+opening m codes = listOf (openingRefused m (admitting codes))
 
 abbrev pub openingWith : List (Field × List ℕ) → List (Part × List ℕ) → List ℕ
 openingWith fields parts = opening (announcementWith fields parts) admitted
@@ -119,19 +119,19 @@ built6G0 =
 -- the numbers of a tender's terms
 unfoldable pub termNumbers : Terms → List ℕ
 termNumbers t =
-    t .execution ∷ t .cutOff ∷ t .most ∷ t .offered ∷ t .minimum ∷ t .increment ∷ t .maximum ∷ t .allocation ∷ t .limit ∷ t .codes
+    t .execution ∷ t .cutOff ∷ t .most ∷ t .offered ∷ t .minimum ∷ t .increment ∷ t .maximum ∷ t .allocation ∷ t .limit ∷ t .admission .codes
 
 unfoldable pub termRows : List Row
 termRows =
     row 225 literal6G0 built6G0
     ∷ row 225 (opening literal6G0 admitted) []
-    ∷ row 225 (termNumbers (termsOf literal6G0 admitted))
+    ∷ row 225 (termNumbers (termsOf literal6G0 admission))
     (12032012 ∷ 110000 ∷ 4 ∷ 900000 ∷ 20000 ∷ 3000 ∷ 80000 ∷ 1000 ∷ 150000 ∷ 90001 ∷ 90002 ∷ 90003 ∷ [])
-    ∷ row 225 (termsOf literal6G0 admitted .identifier) (ascii "T/2012/0042")
+    ∷ row 225 (termsOf literal6G0 admission .identifier) (ascii "T/2012/0042")
     -- it is LA: a bid above the limit rate is out
-    ∷ record { mark = 225; holds = isIn (offerOf (termsOf literal6G0 admitted)) (bid (149000, 20000)) }
-    ∷ record { mark = 225; holds = not (isIn (offerOf (termsOf literal6G0 admitted)) (bid (151000, 20000))) }
+    ∷ record { mark = 225; holds = isIn (offerOf (termsOf literal6G0 admission)) (bid (149000, 20000)) }
+    ∷ record { mark = 225; holds = not (isIn (offerOf (termsOf literal6G0 admission)) (bid (151000, 20000))) }
     -- a refused opening gives no terms
-    ∷ row 0 (termNumbers (openTender [] admitted .1 .terms)) (replicate 9 0)
-    ∷ row 0 (openTender [] admitted .1 .terms .identifier) (replicate 11 0)
+    ∷ row 0 (termNumbers (openTender [] admission .1 .terms)) (replicate 9 0)
+    ∷ row 0 (openTender [] admission .1 .terms .identifier) (replicate 11 0)
     ∷ []

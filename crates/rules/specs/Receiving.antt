@@ -25,15 +25,15 @@ pub record Reception : Type 0 where
   pub time : ℕ
   pub space : List ℕ
 
--- the ten places of a message, and their rates and amounts
-unfoldable pub messagePlaces : List ℕ → List Place
-messagePlaces m = placesIn 10 (bytesOf Bids m)
-
+-- the rates and amounts of the ten places in the 240 bytes of field 6G6, and those of a message
 abbrev pub bidOf : Place → Bid
 bidOf p = record { rate = p .rate .0; amount = p .amount .0 }
 
-unfoldable pub messageBids : List ℕ → List Bid
-messageBids m = map bidOf (messagePlaces m)
+unfoldable pub bidsIn : List ℕ → List Bid
+bidsIn s = map bidOf (placesIn 10 s)
+
+abbrev pub messageBids : List ℕ → List Bid
+messageBids m = bidsIn (bytesOf Bids m)
 
 -- an error: its IDC and its code
 abbrev pub Error : Type 0
@@ -73,7 +73,7 @@ unevenBid minimum increment b = leb minimum (b .amount) && not (eqb ((b .amount 
 unfoldable pub overMaximum : ℕ → List Bid → Bool
 overMaximum maximum bs = not (eqb maximum 0) && ltb maximum (total bs)
 
--- '6G6-901 a place malformed; if none is: 902 .., 903 more filled places than allowed, 904 .., 905 .., 906 .., 907 ..'
+-- '6G6-901 a place malformed; if none is: 902 .., 903 more filled places than allowed, 904 .., 905 .., 906 .., 907 ..': of ten well-formed places
 unfoldable pub bidErrors : Terms → List Bid → List Error
 bidErrors t bs =
     when (gap bs) (ascii "6G6", 902)
@@ -83,21 +83,22 @@ bidErrors t bs =
     ++ when (any (unevenBid (t .minimum) (t .increment)) bs) (ascii "6G6", 906)
     ++ when (overMaximum (t .maximum) bs) (ascii "6G6", 907)
 
+-- and of the 240 bytes of field 6G6
 unfoldable pub placeErrors : Terms → List ℕ → List Error
-placeErrors t m = cond (any (λ (p : Place). not (p .formed)) (messagePlaces m)) ((ascii "6G6", 901) ∷ []) (bidErrors t (messageBids m))
+placeErrors t s = cond (any (λ (p : Place). not (p .formed)) (placesIn 10 s)) ((ascii "6G6", 901) ∷ []) (bidErrors t (bidsIn s))
 
 -- 'The message's errors are collected in this order, each once, as IDC and code'
 unfoldable pub errors : Terms → Reception → List Error
 errors t r =
     when (not (sameText (bytesOf MessageType (r .message)) (ascii "6G1"))) (ascii "001", 900)
-    ++ senderErrors (t .codes) (fieldsOf (r .message) .sender)
+    ++ senderErrors (t .admission .codes) (fieldsOf (r .message) .sender)
     ++ when (not (sameText (bytesOf Recipient (r .message)) (ascii "01000"))) (ascii "050", 599)
     ++ when (not (isNumber (fieldsOf (r .message) .cro))) (ascii "020", 521)
     ++ dateErrors (t .execution) (fieldsOf (r .message) .date)
     ++ when (not (isTime (fieldsOf (r .message) .time))) (ascii "601", 503)
     ++ when (not (isNumber (fieldsOf (r .message) .check))) (ascii "010", 908)
     ++ when (not (sameText (bytesOf Identifier (r .message)) (t .identifier))) (ascii "6G0", 303)
-    ++ placeErrors t (r .message)
+    ++ placeErrors t (bytesOf Bids (r .message))
     ++ when (later (r .date) (r .time) (t .execution) (t .cutOff)) (ascii "6G5", 301)
 
 -- 'A readable message with none of these errors, received with a valid date and time, is sound.'

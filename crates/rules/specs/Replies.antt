@@ -7,19 +7,18 @@ use lib.ListN.{length, take}
 use Rattle.digits.specs.Decimal.{digits}
 use Rattle.layout.specs.Fields.{field}
 use Rattle.texts.specs.Texts.{ascii}
-use Rattle.envelope.specs.declared.application.Field.the-variants.{Sender, Cro}
-use Rattle.envelope.specs.Application.{bytesOf}
 use Rattle.rules.specs.Receiving.{Error}
 
--- 'A confirmation has type `6G2`, 040 `01000`, 050 the sender, 022 original CRO (22, 11), 601 reception time, 6G0'
-unfoldable pub confirmation : List ℕ → List ℕ → ℕ → List ℕ
-confirmation identifier m time =
-    field 0x01 (ascii "6G2")
+-- 'A confirmation has type `6G2`, 040 `01000`, 050 the sender, 022 original CRO (22, 11), 601 reception time, 6G0': by its type, the sender and the
+-- CRO of the message, the reception time and what the last field holds
+unfoldable pub confirmation : List ℕ → List ℕ → List ℕ → ℕ → List ℕ → List ℕ
+confirmation type sender cro time last =
+    field 0x01 type
     ++ field 0x04 (ascii "01000")
-    ++ field 0x05 (bytesOf Sender m)
-    ++ field 0x22 (bytesOf Cro m)
+    ++ field 0x05 sender
+    ++ field 0x22 cro
     ++ field 0x60 (digits 6 time)
-    ++ field 0x70 identifier
+    ++ field 0x70 last
 
 -- '`IDC - code`'
 unfoldable pub errorText : Error → List ℕ

@@ -13,9 +13,9 @@ use Rattle.envelope.specs.Application.{position, readingRefused, writingRefused
 use Rattle.rules.specs.Allotment.{total}
 use Rattle.rules.specs.Receiving.{Reception, Submission, submission, Entry, errors}
 use Rattle.rules.specs.Replies.{errorTexts}
-use Rattle.rules.specs.Calls.{State, Open, Closed, Announced, Revoked, Tender, inState, Answer, confirmed, returned, refused, openTender, receivingRefused, receive, closingRefused, close, allottingRefused, places640, allot, revokingRefused, revoke}
+use Rattle.rules.specs.Calls.{State, Open, Closed, Announced, Revoked, Tender, inState, Answer, confirmed, returned, refused, openTender, receivingRefused, receive, closingRefused, close, allottingRefused, in640, allot, revokingRefused, revoke}
 use Rattle.rules.specs.Events.{Event, receiveEvent, closeEvent, allotEvent, revokeEvent, afterEvents}
-use Rattle.rules.specs.Messages.{_is_, Most, Maximum, announcementWith, announcement, admitted, terms, Pairs, numbers, message, messageWith, zeroPlaces, reception}
+use Rattle.rules.specs.Messages.{_is_, Most, Maximum, announcementWith, announcement, admission, terms, Pairs, numbers, message, messageWith, zeroPlaces, reception}
 use Rattle.rules.specs.Marked.{code, rate, amount, Row, row, allHold, listOf, tenderAfter}
 use Rattle.rules.specs.OpeningRows.{openingRows, openingOrderRows, literal6G0, termRows}
 
@@ -31,14 +31,14 @@ abbrev pub malformedPlace : Field × List ℕ
 malformedPlace = (Bids, ascii "00120000 000000000010000" ++ zeroPlaces 9)
 
 unfoldable pub opened : Tender
-opened = openTender announcement admitted .1
+opened = openTender announcement admission .1
 
 -- a tender that takes ten bids of a message, and one that takes one bid and no more than 20000 in all
 unfoldable pub wide : Tender
-wide = openTender (announcementWith [] (Most is "10" ∷ [])) admitted .1
+wide = openTender (announcementWith [] (Most is "10" ∷ [])) admission .1
 
 unfoldable pub narrow : Tender
-narrow = openTender (announcementWith [] (Most is "01" ∷ Maximum is "000000000020000" ∷ [])) admitted .1
+narrow = openTender (announcementWith [] (Most is "01" ∷ Maximum is "000000000020000" ∷ [])) admission .1
 
 -- the tender closed, with one bid of so many eurocents in its book
 unfoldable pub closedWith : ℕ → Tender
@@ -94,14 +94,14 @@ stateRows =
     ∷ row 15 (allotting (allot (close opened 12032012 110001 .1) .1)) (15 ∷ [])
     ∷ row 8 (revoking (revoke opened .1)) (8 ∷ [])
     ∷ row 15 (revoking (inState Announced opened)) (15 ∷ [])
-    -- a refused allotment gives 640 zeros; an accepted one looks at 640 places
+    -- a refused allotment gives 640 zeros; an accepted one zeros after the awards
     ∷ row 14 (allot opened .2 .awards) (replicate 640 0)
     ∷ row 14 (listOf (allot opened .2 .marginal)) []
-    ∷ row 640 (length (places640 (record { rate = 120000; amount = 10000 } ∷ [])) ∷ []) (640 ∷ [])
+    ∷ row 640 (in640 (10000 ∷ 5 ∷ [])) (10000 ∷ 5 ∷ replicate 638 0)
     ∷ row 0 (revoking opened) []
     ∷ row 0 (revoking (inState Closed opened)) []
     -- a refused opening gives a tender on which every call is refused
-    ∷ row 8 (closing (openTender [] admitted .1) 12032012 110001) (8 ∷ [])
+    ∷ row 8 (closing (openTender [] admission .1) 12032012 110001) (8 ∷ [])
     ∷ []
 
 -- where a tender stands after events, and the amounts in the first place of each entry
@@ -273,7 +273,7 @@ submittedNumbers s = s .code ∷ s .time ∷ map rate (s .bids) ++ map amount (s
 
 -- a bid to the tender whose announcement stands byte by byte: its minimum is 20000, its increment 3000, its maximum 80000
 abbrev pub literal098 : Pairs → List ℕ
-literal098 ps = second098 103000 (openTender literal6G0 admitted .1) (messageWith (Identifier is "T/2012/0042" ∷ []) 90001 102900 ps)
+literal098 ps = second098 103000 (openTender literal6G0 admission .1) (messageWith (Identifier is "T/2012/0042" ∷ []) 90001 102900 ps)
 
 unfoldable pub literalRows : List Row
 literalRows =

@@ -1,14 +1,14 @@
 -- What is proved of cancelling, of all tenders that calls give, of awards, marginal rate and rounds, besides demand 3 and the tables. Assumes nothing.
 use mathlib.Core.Path.{_≡_}
 use mathlib.Core.Bool.{true, false}
-use mathlib.Core.List.{List, List·Memᴰ}
+use mathlib.Core.List.{List, _++_, List·Memᴰ}
 use mathlib.Core.Option.{none, some}
 use Prim.Native.Nat.{ℕ, suc, _+_, _*_, _-_, _/_, _%_, _≤_, _<_, min}
-use lib.ListN.{length, getD}
+use lib.ListN.{length, getD, replicate}
 use Rattle.rules.specs.Allotment.{Bid, noBid, filled, Offer, total, totalBetter, totalEqual, binaryLength, firstDigits, Division, divisionAt, share, awards, sum, marginalRate, totalIn, walk}
-use Rattle.rules.specs.Opening.{Terms}
+use Rattle.rules.specs.Opening.{Admission, Terms}
 use Rattle.rules.specs.Receiving.{Reception, submission, cancels, Entry, tenZeros, takes, hold}
-use Rattle.rules.specs.Calls.{Tender, openTender, bidsInBook, bidsExceed}
+use Rattle.rules.specs.Calls.{Tender, openTender, bidsInBook, bidsExceed, bidsTaken, bidAwards, awardsGiven, marginalGiven, in640}
 use Rattle.rules.specs.Events.{Event, afterEvents, Kept}
 
 -- 'Ten zero places cancel': a message cancels exactly when its bids are ten zeros
@@ -28,7 +28,7 @@ CancellingHoldsZeros =
 
 -- 'Every tender handed to a call was given by opening or an earlier call, and what holds of all those may be relied on'
 abbrev pub EventsKeep : Type 0
-EventsKeep = (m codes : List ℕ) (es : List Event) → Kept (afterEvents (openTender m codes .1) es)
+EventsKeep = (m : List ℕ) (a : Admission) (es : List Event) → Kept (afterEvents (openTender m a .1) es)
 
 -- 64 counterparties, ten bids and fifteen digits: the bids of a book stay under 640,000,000,000,000,000 eurocents
 abbrev pub KeptIsBounded : Type 0
@@ -36,11 +36,23 @@ KeptIsBounded = (t : Tender) → Kept t → total (bidsInBook (t .book)) ≤ 639
 
 -- condition 16 holds of no tender that opening and events of any kind leave
 abbrev pub BidsNeverExceed : Type 0
-BidsNeverExceed = (m codes : List ℕ) (es : List Event) → bidsExceed (afterEvents (openTender m codes .1) es) ≡ false
+BidsNeverExceed = (m : List ℕ) (a : Admission) (es : List Event) → bidsExceed (afterEvents (openTender m a .1) es) ≡ false
 
 -- the awards add up to the smaller of the amount offered and the bids in
 abbrev pub AwardsAddUp : Type 0
 AwardsAddUp = (o : Offer) (bs : List Bid) → sum (awards o bs) ≡ min (o .offered) (totalIn o bs)
+
+-- 'places of absent codes zero': the bids in 640 places, those of absent codes empty, give the same bids, awards and marginal rate
+abbrev pub places640 : List Bid → List Bid
+places640 bs = bs ++ replicate (640 - length bs) noBid
+
+abbrev pub In640Places : Type 0
+In640Places =
+    (t : Terms) (bs : List Bid)
+    → (bidsTaken t (places640 bs) ≡ places640 (bidsTaken t bs))
+    × (bidAwards t (places640 bs) ≡ in640 (bidAwards t bs))
+    × (awardsGiven t (places640 bs) ≡ in640 (awardsGiven t bs))
+    × (marginalGiven t (places640 bs) ≡ marginalGiven t bs)
 
 -- no award exceeds its bid, where all bids are above zero
 abbrev pub NoAwardAboveBid : Type 0

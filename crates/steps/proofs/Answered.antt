@@ -10,7 +10,8 @@ use Rattle.rules.specs.Receiving.{Error, isEmpty}
 use Rattle.rules.specs.Calls.{confirmed, returned, refused, answerTo}
 use Rattle.log.specs.Lines.{confirmedLine, returnedLine, refusedLine}
 use Rattle.log.specs.Steps.{dateIn, timeIn, answerLine}
-use Rattle.tender.specs.Viewed.{isSome, answerIn}
+use Rattle.refusals.specs.Conditions.{isSome}
+use Rattle.tender.specs.Viewed.{answerIn}
 
 pub line-refused : (l : Option ℕ) (es : List Error) (k : ℕ) (s : List ℕ) → isSome l ≡ true → refusedLine (orZero l) ≡ answerLine (answerIn l es k) s
 unfolding answerLine

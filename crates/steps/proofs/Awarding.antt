@@ -9,19 +9,15 @@ use lib.Dec.{ltb}
 use lib.ListN.{length, drop, replicate, length-append, length-drop}
 use lib.Seq.{drop-append-le}
 use Rattle.envelope.specs.Refusals.{unlessRefused, orZero}
-use Rattle.rules.specs.Allotment.{Bid, awards}
-use Rattle.rules.specs.Opening.{offerOf}
+use Rattle.rules.specs.Allotment.{Bid}
 use Rattle.rules.specs.Receiving.{Entry}
 use Rattle.rules.specs.Calls as rules
-use Rattle.rules.specs.Calls.{allottingRefused, bidsInBook, allotment, notAllotted, allot}
-use Rattle.awards.proofs.Loops.{length-awards}
-use Rattle.allotment.proofs.Absent.{awards-640}
-use Rattle.tender.specs.declared.Tender.{Tender}
-use Rattle.tender.specs.declared.internal.AllotAnswer.{AllotAnswer}
-use Rattle.tender.specs.Viewed as tender
-use Rattle.tender.specs.Viewed.{isSome, refusalNumber}
-use Rattle.tender.specs.Parts.{awardedTo, AllotsBids}
-use Rattle.tender.proofs.Conditions.{none-of}
+use Rattle.rules.specs.Calls.{allottingRefused, bidsInBook, awardsGiven, in640, allotment, notAllotted, allot}
+use Rattle.rules.proofs.Links.{length-given}
+use Rattle.outcomes.specs.declared.internal.AllotAnswer.{AllotAnswer}
+use Rattle.refusals.specs.Conditions.{isSome, refusalNumber}
+use Rattle.outcomes.specs.Allotting.{awardedTo, AllotsBids}
+use Rattle.refusals.proofs.Conditions.{none-of}
 use Rattle.log.specs.Lines.{refusedLine, awardLine, placeLines, awardLines}
 use Rattle.log.specs.Steps.{awardsLine, allotted}
 
@@ -56,19 +52,16 @@ module _ (t : rules.Tender) where
   lines-refused none e h = absurd (false≢true h)
   lines-refused (some n) e h = lines-are (some n) e
 
-  pub lines-awarded : (l : Option ℕ) → l ≡ allottingRefused t → isSome l ≡ false → (xs : List ℕ) → xs ≡ awards (offerOf (t .terms)) (bidsInBook (t .book)) → awardLines (t .book) xs ≡ allotted t .1
-  unfolding linesBy allotment
+  pub lines-awarded : (l : Option ℕ) → l ≡ allottingRefused t → isSome l ≡ false → (xs : List ℕ) → xs ≡ awardsGiven (t .terms) (bidsInBook (t .book)) → awardLines (t .book) xs ≡ allotted t .1
+  unfolding linesBy allotment in640
   lines-awarded (some n) e h xs q = absurd (false≢true (sym h))
   lines-awarded none e h xs q =
-      let o = offerOf (t .terms) in
-      let bs = bidsInBook (t .book) in
-      let n = length-awards o bs in
+      let given = awardsGiven (t .terms) (bidsInBook (t .book)) in
       ap (awardLines (t .book)) q
-      ∙ sym (no-more-lines (t .book) (awards o bs) (replicate (640 - length bs) 0) (omega (arith, n)))
-      ∙ ap (awardLines (t .book)) (sym (awards-640 o bs))
+      ∙ sym (no-more-lines (t .book) given (replicate (640 - length given) 0) (omega (arith, length-given (t .terms) (bidsInBook (t .book)))))
       ∙ lines-are none e
 
 -- the awards of an allotment that is not refused
-pub awards-told : {t : Tender} {space left : List ℕ} {r : AllotAnswer} → AllotsBids t space r left → isSome (refusalNumber (r .refusal)) ≡ false → left ≡ awards (offerOf (tender.viewed t .terms)) (bidsInBook (tender.viewed t .book))
+pub awards-told : {t : rules.Tender} {space left : List ℕ} {r : AllotAnswer} → AllotsBids t space r left → isSome (refusalNumber (r .refusal)) ≡ false → left ≡ awardsGiven (t .terms) (bidsInBook (t .book))
 awards-told {t} {space} {left} {r} a h =
-    ap (λ (x : Option ℕ × List ℕ). x .1) (a .awarded ∙ ap (λ (l : Option ℕ). unlessRefused l (none, space) (awardedTo (tender.viewed t))) (none-of (refusalNumber (r .refusal)) h))
+    ap (λ (x : Option ℕ × List ℕ). x .1) (a .awarded ∙ ap (λ (l : Option ℕ). unlessRefused l (none, space) (awardedTo t)) (none-of (refusalNumber (r .refusal)) h))

@@ -1,7 +1,6 @@
 pub mod Answered
 pub mod Taking
 pub mod Admitted
-pub mod Clock
 pub mod Announcing
 pub mod Receiving
 pub mod Awarding

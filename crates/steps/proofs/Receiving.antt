@@ -14,14 +14,13 @@ use Rattle.rules.specs.Calls.{receivingRefused, reply, answerTo, answerWith, an
 use Rattle.errors.specs.Listed.{listed}
 use Rattle.checks.specs.Columns as checks
 use Rattle.log.specs.Steps.{dateOf, timeOf, receptionIn, answerLine, onTender, received}
-use Rattle.tender.specs.declared.Tender.{Tender}
 use Rattle.bids.specs.Columns.{bidsFrom}
 use Rattle.book.specs.Viewed as book
-use Rattle.tender.specs.declared.internal.Accepted.{Accepted}
-use Rattle.tender.specs.declared.internal.Outcome.{Outcome}
-use Rattle.tender.specs.Viewed as tender
-use Rattle.tender.specs.Viewed.{refusalNumber, answerIn, isHeld, leftBy}
-use Rattle.tender.specs.Parts.{Left, ComesTo}
+use Rattle.outcomes.specs.declared.internal.Accepted.{Accepted}
+use Rattle.outcomes.specs.declared.internal.Outcome.{Outcome}
+use Rattle.refusals.specs.Conditions.{refusalNumber}
+use Rattle.tender.specs.Viewed.{answerIn}
+use Rattle.outcomes.specs.Outcomes.{isHeld, leftBy, Left, ComesTo}
 use Rattle.steps.specs.declared.Change.the-variants as change
 use Rattle.steps.specs.declared.Taken.{Taken}
 use Rattle.steps.specs.Parts.{Parts, tenderIn, viewed, Given, holding, Takes}
@@ -35,46 +34,46 @@ reception-is s m date time p q h = λ i. record { message = p i; date = q i; tim
 pub message-is : (s : List ℕ) → take (length s - 14) (drop 14 s) ≡ drop 14 s
 message-is s = take-all (length s - 14) (drop 14 s) (omega (arith, length-drop 14 s))
 
-module _ (t : Tender) (s m : List ℕ) (date time : ℕ) (o : Outcome) (c : ComesTo t m date time 418 o)
+module _ (t : rules.Tender) (s m : List ℕ) (date time : ℕ) (o : Outcome) (c : ComesTo t m date time 418 o)
     (p : m ≡ drop 14 s) (q : date ≡ dateOf s) (h : time ≡ timeOf s) where
   abbrev x : Reception
   x = receptionIn s
 
   abbrev errors : List Error
-  errors = returnedErrors (tender.viewed t .terms) (tender.viewed t .book) x
+  errors = returnedErrors (t .terms) (t .book) x
 
   -- the length of the reply, which no line tells
   abbrev told : ℕ
-  told = length (reply errors (tender.viewed t .terms .identifier) (x .message) (x .time))
+  told = length (reply errors (t .terms .identifier) (x .message) (x .time))
 
-  number : refusalNumber (o .refusal) ≡ receivingRefused (tender.viewed t) x
-  number = c .number (replicate 418 0) refl ∙ ap (receivingRefused (tender.viewed t)) (reception-is s m date time p q h)
+  number : refusalNumber (o .refusal) ≡ receivingRefused (t) x
+  number = c .number (replicate 418 0) refl ∙ ap (receivingRefused (t)) (reception-is s m date time p q h)
 
   left : refusalNumber (o .refusal) ≡ none → Left t x o
   left e = subst (λ (y : Reception). Left t y o) (reception-is s m date time p q h) (c .left e (replicate 418 0))
 
   by-number : (l : Option ℕ) → refusalNumber (o .refusal) ≡ l
-      → (answerUnless l (tender.viewed t) x .0 ≡ answerIn l (listed (o .errors)) told) × (answerUnless l (tender.viewed t) x .1 ≡ leftBy (tender.viewed t) o)
+      → (answerUnless l (t) x .0 ≡ answerIn l (listed (o .errors)) told) × (answerUnless l (t) x .1 ≡ leftBy (t) o)
   unfolding answerUnless answerWith
   by-number (some n) e = (refl, rw e refl)
   by-number none e =
       let f = left e in (
         ap (λ (es : List Error). answerTo es told) (sym (ap (λ (y : List Error × List Entry). y .0) f)),
-        λ i. record { terms = tender.viewed t .terms; state = tender.viewed t .state; book = sym (ap (λ (y : List Error × List Entry). y .1) f) i },
+        λ i. record { terms = t .terms; state = t .state; book = sym (ap (λ (y : List Error × List Entry). y .1) f) i },
       )
 
-  line-and-left : (answerLine (answerIn (refusalNumber (o .refusal)) (listed (o .errors)) told) s ≡ received s (tender.viewed t) .1) × (received s (tender.viewed t) .0 ≡ leftBy (tender.viewed t) o)
+  line-and-left : (answerLine (answerIn (refusalNumber (o .refusal)) (listed (o .errors)) told) s ≡ received s (t) .1) × (received s (t) .0 ≡ leftBy (t) o)
   unfolding receive
   line-and-left =
       let b = by-number (refusalNumber (o .refusal)) refl in (
-        sym (ap (λ (l : Option ℕ). answerLine (answerUnless l (tender.viewed t) x .0) s) (sym number) ∙ ap (λ (a : rules.Answer). answerLine a s) (b .0)),
-        ap (λ (l : Option ℕ). answerUnless l (tender.viewed t) x .1) (sym number) ∙ b .1,
+        sym (ap (λ (l : Option ℕ). answerLine (answerUnless l (t) x .0) s) (sym number) ∙ ap (λ (a : rules.Answer). answerLine a s) (b .0)),
+        ap (λ (l : Option ℕ). answerUnless l (t) x .1) (sym number) ∙ b .1,
       )
 
-  pub line-told : answerLine (answerIn (refusalNumber (o .refusal)) (listed (o .errors)) told) s ≡ received s (tender.viewed t) .1
+  pub line-told : answerLine (answerIn (refusalNumber (o .refusal)) (listed (o .errors)) told) s ≡ received s (t) .1
   line-told = line-and-left .0
 
-  pub left-told : received s (tender.viewed t) .0 ≡ leftBy (tender.viewed t) o
+  pub left-told : received s (t) .0 ≡ leftBy (t) o
   left-told = line-and-left .1
 
 -- the tender after it: as it was, or with the message

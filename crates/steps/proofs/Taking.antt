@@ -12,12 +12,12 @@ use borrow.Author.Tests.{eq-eqb, ne-eqb}
 use Rattle.output.specs.Output.{Wrote}
 use Rattle.output.proofs.Output.{nothing}
 use Rattle.envelope.specs.Refusals.{unlessRefused, orZero}
+use Rattle.rules.specs.Opening.{admitting}
 use Rattle.rules.specs.Calls as rules
 use Rattle.log.specs.Lines.{refusedLine}
 use Rattle.log.specs.Steps.{Log, Step, ending, onTender, refusal}
-use Rattle.tender.specs.declared.State.{State}
-use Rattle.tender.specs.Viewed as tender
-use Rattle.tender.specs.Viewed.{isSome}
+use Rattle.refusals.specs.declared.State.{State}
+use Rattle.refusals.specs.Conditions.{isSome, stateOf}
 use Rattle.steps.specs.declared.Change.{Change}
 use Rattle.steps.specs.declared.Change.the-variants as change
 use Rattle.steps.specs.declared.Taken.{Taken}
@@ -33,7 +33,7 @@ unwritten space n e = subst (Wrote space 0 [] space) (sym e) (nothing space 0)
 
 -- the log with a tender or not
 abbrev logWith : Parts → Bool → Log
-logWith p b = record { ended = false; codes = admittedNow p; tender = cond b (some (tenderIn p)) none }
+logWith p b = record { ended = false; admission = admitting (admittedNow p); tender = cond b (some (tenderIn p)) none }
 
 -- before an accepted A1 a call is skipped; after it the call gives the next tender and the lines
 pub no-tender : (p : Parts) (call : rules.Tender → rules.Tender × List ℕ) → p .opened ≡ false → (viewed p, []) ≡ onTender (viewed p) call
@@ -68,10 +68,10 @@ module _ (p : Parts) (g : Given p) (s space : List ℕ) (r : Taken) where
       }
 
   pub takes-ended : r .change ≡ change.Ended → r .length ≡ 0 → Takes (ending (viewed p)) p s space r space
-  takes-ended e z = takes-by (ending (viewed p)) change.Ended space e (λ i. record { ended = true; codes = all-kept p g i; tender = viewed p .tender }) tt (unwritten space (r .length) z)
+  takes-ended e z = takes-by (ending (viewed p)) change.Ended space e (λ i. record { ended = true; admission = admitting (all-kept p g i); tender = viewed p .tender }) tt (unwritten space (r .length) z)
 
   pub takes-nothing : (text left : List ℕ) → r .change ≡ change.None → Wrote space 0 text left (r .length) → Takes (viewed p, text) p s space r left
-  takes-nothing text left e w = takes-by (viewed p, text) change.None left e (λ i. record { ended = false; codes = all-kept p g i; tender = viewed p .tender }) tt w
+  takes-nothing text left e w = takes-by (viewed p, text) change.None left e (λ i. record { ended = false; admission = admitting (all-kept p g i); tender = viewed p .tender }) tt w
 
   pub takes-skipped : r .change ≡ change.None → r .length ≡ 0 → Takes (viewed p, []) p s space r space
   takes-skipped e z = takes-nothing [] space e (unwritten space (r .length) z)
@@ -79,18 +79,18 @@ module _ (p : Parts) (g : Given p) (s space : List ℕ) (r : Taken) where
   -- a call that leaves the tender as it is
   pub takes-left : (t : rules.Tender) (text left : List ℕ) → p .opened ≡ true → r .change ≡ change.None → t ≡ tenderIn p → Wrote space 0 text left (r .length) → Takes (withTender p t, text) p s space r left
   takes-left t text left o e q w =
-      takes-as (λ i. (record { ended = false; codes = admittedNow p; tender = (ap (λ (b : Bool). cond b (some (tenderIn p)) none) o ∙ ap some (sym q)) i }, text)) (takes-nothing text left e w)
+      takes-as (λ i. (record { ended = false; admission = admitting (admittedNow p); tender = (ap (λ (b : Bool). cond b (some (tenderIn p)) none) o ∙ ap some (sym q)) i }, text)) (takes-nothing text left e w)
 
   -- a message that is accepted
   pub takes-accepted : (t : rules.Tender) (text left : List ℕ) → p .opened ≡ true → r .change ≡ change.Accepted → t ≡ holding (tenderIn p) (r .accepted) → r .accepted .at < 64 → Wrote space 0 text left (r .length)
       → Takes (withTender p t, text) p s space r left
-  takes-accepted t text left o e q h w = takes-by (withTender p t, text) change.Accepted left e (λ i. record { ended = false; codes = all-kept p g i; tender = some (q i) }) (o, h) w
+  takes-accepted t text left o e q h w = takes-by (withTender p t, text) change.Accepted left e (λ i. record { ended = false; admission = admitting (all-kept p g i); tender = some (q i) }) (o, h) w
 
   -- a call that is refused, or puts the tender into a state
   pub takes-state : (x : State) (l : Option ℕ) (text left : List ℕ) → p .opened ≡ true → r .change ≡ unlessRefused l change.None (change.InState x) → Wrote space 0 text left (r .length)
-      → Takes (withTender p (unlessRefused l (tenderIn p) (rules.inState (tender.stateOf x) (tenderIn p))), text) p s space r left
+      → Takes (withTender p (unlessRefused l (tenderIn p) (rules.inState (stateOf x) (tenderIn p))), text) p s space r left
   takes-state x none text left o e w =
-      takes-by (withTender p (rules.inState (tender.stateOf x) (tenderIn p)), text) (change.InState x) left e (λ i. record { ended = false; codes = all-kept p g i; tender = some (rules.inState (tender.stateOf x) (tenderIn p)) }) o w
+      takes-by (withTender p (rules.inState (stateOf x) (tenderIn p)), text) (change.InState x) left e (λ i. record { ended = false; admission = admitting (all-kept p g i); tender = some (rules.inState (stateOf x) (tenderIn p)) }) o w
   takes-state x (some n) text left o e w = takes-left (tenderIn p) text left o e refl w
 
 -- the line of a refusal, and none where there is none

@@ -1,23 +1,23 @@
 // One kind of field each: what it changes and its lines.
 use crate::Change;
 use crate::Taken;
-use crate::internal::date_of;
 use crate::internal::put_answer;
-use crate::internal::time_of;
-use crate::internal::up_to_65;
 use award_lines::internal::put_awards;
 use book::up_to_64;
 use digits::all_digits;
 use lines::internal::put_refused;
-use tender::Refusal;
-use tender::State;
-use tender::internal::allot_bids;
-use tender::internal::close_refusal;
-use tender::internal::is_held;
-use tender::internal::nothing_accepted;
-use tender::internal::outcome_of;
-use tender::internal::revoke_refusal;
-use tender::is_refused;
+use outcomes::internal::allot_bids;
+use outcomes::internal::is_held;
+use outcomes::internal::nothing_accepted;
+use outcomes::internal::outcome_of;
+use refusals::Refusal;
+use refusals::State;
+use refusals::close_refusal;
+use refusals::is_refused;
+use refusals::revoke_refusal;
+use session_fields::internal::date_of;
+use session_fields::internal::time_of;
+use session_fields::internal::up_to_65;
 use terms::Terms;
 use terms::is_opened;
 use terms::no_terms;
@@ -33,8 +33,9 @@ ghost use Rattle.output.specs.Output.{Wrote};
 ghost use Rattle.terms.specs.declared.Terms.{Terms};
 ghost use Rattle.book.specs.declared.Book.{Book};
 ghost use Rattle.book.specs.Viewed.{bookOf, Lends, Full, upTo64};
-ghost use Rattle.tender.specs.declared.State.{State};
-ghost use Rattle.tender.specs.Viewed.{refusalNumber, tenderOf};
+ghost use Rattle.refusals.specs.declared.State.{State};
+ghost use Rattle.refusals.specs.Conditions.{refusalNumber};
+ghost use Rattle.outcomes.specs.Outcomes.{viewedOf};
 ghost use Rattle.log.specs.Steps as steps;
 ghost use Rattle.log.specs.Steps.{ending, admissionStep, announcementStep, receptionStep, closingStep, revocationStep, allottingStep};
 ghost use Rattle.steps.specs.declared.Change.the-variants as change;
@@ -148,7 +149,7 @@ fn put_into(state: State, refusal: Refusal, space: &mut [u8]) -> Taken
     ensures { λ r. ⌜ Wrote (now (space .entry)) 0 (steps.refusal (refusalNumber refusal)) (now (space .exit)) (r .length) × (r .change ≡ unlessRefused (refusalNumber refusal) change.None (change.InState state)) ⌝ }
 {
     if is_refused(refusal) {
-        let length = put_refused(space, tender::number_of(refusal));
+        let length = put_refused(space, refusals::number_of(refusal));
         return with_change(length, Change::None);
     }
     with_change(0, Change::InState(state))
@@ -196,7 +197,7 @@ fn put_allotment<'a>(
 ) -> Taken
     requires { ⌜ (length (now admitted) ≡ 64) × (length (now rates) ≡ 640) × (length (now amounts) ≡ 640) ⌝ }
     requires { ⌜ 23040 ≤ length (now space) ⌝ }
-    ensures { λ r. ⌜ ((held : List ℕ) (has : List Bool) → PutsAllotment (tenderOf state terms (bookOf k (now (admitted .entry)) held has (now (rates .entry)) (now (amounts .entry)))) (now (space .entry)) r (now (space .exit))) ⌝ }
+    ensures { λ r. ⌜ ((held : List ℕ) (has : List Bool) → PutsAllotment (viewedOf state terms (bookOf k (now (admitted .entry)) held has (now (rates .entry)) (now (amounts .entry)))) (now (space .entry)) r (now (space .exit))) ⌝ }
 {
     let n = up_to_64(k);
     let end = 10 * n;
@@ -210,7 +211,7 @@ fn put_allotment<'a>(
     );
     let refusal = answer.refusal;
     if is_refused(refusal) {
-        let length = put_refused(space, tender::number_of(refusal));
+        let length = put_refused(space, refusals::number_of(refusal));
         return with_change(length, Change::None);
     }
     let length = put_awards(space, &admitted[0..n], &rates[0..end], &awards[0..end]);

@@ -1,4 +1,4 @@
-// The clock and the codes of a field, the line of a reception, and one field of any kind.
+// The line of a reception, and one field of any kind.
 use crate::Taken;
 use crate::fields::admission;
 use crate::fields::allotting;
@@ -7,87 +7,28 @@ use crate::fields::closing;
 use crate::fields::ended;
 use crate::fields::reception;
 use crate::fields::revocation;
-use digits::has_number;
-use digits::internal::number;
-use digits::number_of;
 use errors::Errors;
 use lines::internal::put_confirmed;
 use lines::internal::put_refused;
 use lines::internal::put_returned;
-use tender::Refusal;
-use tender::State;
-use tender::is_refused;
+use refusals::Refusal;
+use refusals::State;
+use refusals::is_refused;
 use terms::Terms;
-use words::internal::eight;
-use words::internal::last_of_eight;
 ghost use mathlib.Core.Path.{_≡_};
 ghost use mathlib.Core.Bool.{true};
 ghost use mathlib.Core.Option.{none};
-ghost use Prim.Native.Nat.{ℕ, _+_, _*_, _≤_, min};
-ghost use lib.ListN.{length, take, drop};
+ghost use Prim.Native.Nat.{ℕ, _≤_};
+ghost use lib.ListN.{length, drop};
 ghost use Rattle.output.specs.Output.{Wrote};
-ghost use Rattle.digits.specs.Decimal.{allDigits};
 ghost use Rattle.layout.specs.Fields.{readable};
 ghost use Rattle.envelope.specs.Application.{layout6G1};
 ghost use Rattle.book.specs.Viewed.{bookOf, Full};
 ghost use Rattle.errors.specs.Listed.{listed};
-ghost use Rattle.tender.specs.Viewed.{refusalNumber, answerIn};
-ghost use Rattle.log.specs.Steps.{dateOf, timeOf, answerLine, step};
-ghost use Rattle.steps.specs.Parts.{codeIn, codesFrom, parts, viewed, Given, Takes};
-
-// The code that five digits from an index on make.
-fn code_at(s: &[u8], at: usize) -> u32
-    requires { ⌜ at + 5 ≤ length (now s) ⌝ }
-    requires { ⌜ allDigits (now s) ≡ true ⌝ }
-    ensures { λ r. ⌜ r ≡ codeIn (take 5 (drop at (now (s .entry)))) ⌝ }
-{
-    number_of(number(&s[at..at + 5])) as u32
-}
-
-// The first n codes of digits.
-pub fn codes_in(s: &[u8], n: usize) -> [u32; 65]
-    requires { ⌜ (n ≤ 65) × (5 * n ≤ length (now s)) ⌝ }
-    requires { ⌜ allDigits (now s) ≡ true ⌝ }
-    ensures { λ r. ⌜ (take n r ≡ codesFrom n (now (s .entry))) × (length r ≡ 65) ⌝ }
-{
-    let mut codes = [0u32; 65];
-    let mut i = 0;
-    while i < n {
-        codes[i] = code_at(s, 5 * i);
-        i += 1;
-    }
-    codes
-}
-
-// A number, or 65 where it is larger.
-pub fn up_to_65(n: usize) -> usize
-    ensures { λ r. ⌜ (r ≡ min n 65) × (r ≤ 65) ⌝ }
-{
-    let most = 65;
-    if n < most {
-        return n;
-    }
-    most
-}
-
-// The date that a field begins with; zero, which is none, where the clock is not digits.
-pub fn date_of(s: &[u8]) -> u64
-    requires { ⌜ 14 ≤ length (now s) ⌝ }
-    ensures { λ r. ⌜ r ≡ dateOf (now (s .entry)) ⌝ }
-{
-    if has_number(last_of_eight(&s[6..14], 2)) {
-        return number_of(eight(&s[0..8]));
-    }
-    0
-}
-
-// The time after the date.
-pub fn time_of(s: &[u8]) -> u64
-    requires { ⌜ 14 ≤ length (now s) ⌝ }
-    ensures { λ r. ⌜ r ≡ timeOf (now (s .entry)) ⌝ }
-{
-    number_of(last_of_eight(&s[6..14], 2))
-}
+ghost use Rattle.refusals.specs.Conditions.{refusalNumber};
+ghost use Rattle.tender.specs.Viewed.{answerIn};
+ghost use Rattle.log.specs.Steps.{answerLine, step};
+ghost use Rattle.steps.specs.Parts.{parts, viewed, Given, Takes};
 
 // Writes the line of a reception.
 pub fn put_answer(space: &mut [u8], s: &[u8], m: &[u8], r: Refusal, e: Errors) -> usize
@@ -97,7 +38,7 @@ pub fn put_answer(space: &mut [u8], s: &[u8], m: &[u8], r: Refusal, e: Errors) -
     ensures { λ n. ⌜ ((k : ℕ) → Wrote (now (space .entry)) 0 (answerLine (answerIn (refusalNumber r) (listed e) k) (now (s .entry))) (now (space .exit)) n) ⌝ }
 {
     if is_refused(r) {
-        return put_refused(space, tender::number_of(r));
+        return put_refused(space, refusals::number_of(r));
     }
     if e.n == 0 {
         return put_confirmed(space, s, m);

@@ -2,8 +2,8 @@
 mod fields;
 pub mod internal;
 
-use tender::State;
-use tender::internal::Accepted;
+use outcomes::internal::Accepted;
+use refusals::State;
 use terms::Terms;
 
 // What a field changes: nothing; the log is ended; so many codes are admitted to the next tender; a tender is opened; the tender is put into a state; a message is accepted.

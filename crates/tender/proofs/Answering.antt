@@ -1,6 +1,6 @@
 -- What a reception gives: refused, nothing; else what the rules answer. Assumes nothing.
 use mathlib.Core.Path.{_≡_, refl, sym, ap, ap₂, subst, _∙_}
-use mathlib.Core.Bool.{Bool, true, false, cond, not, false≢true}
+use mathlib.Core.Bool.{Bool, true, false, not, false≢true}
 use mathlib.Core.List.{List, [], _∷_, _++_, map}
 use mathlib.Core.Option.{Option, none, some}
 use Prim.Native.Nat.{ℕ, _+_, _<_, _≤_}
@@ -10,14 +10,11 @@ use lib.Dec.{ltb}
 use lib.ListN.{length, take, drop}
 use borrow.Author.Tests.{ltb-true, ltb-false}
 use Rattle.output.specs.Output.{overlay, Wrote}
-use Rattle.layout.specs.Fields.{readable}
-use Rattle.envelope.specs.Refusals.{firstHolding, unlessRefused}
-use Rattle.envelope.specs.declared.application.ReadAnswer.{ReadAnswer}
-use Rattle.envelope.specs.declared.application.Fields.{Fields}
-use Rattle.envelope.specs.Application.{layout6G1, unreadable, reading, readRefusal, noFields, fieldsOf}
-use Rattle.rules.specs.Opening.{Terms, rising}
-use Rattle.rules.specs.Receiving.{Reception, Error, Entry, Submission, isEmpty, takes, hold, submission, returnedErrors}
+use Rattle.rules.specs.Opening.{admitting}
+use Rattle.rules.specs.Receiving.{Reception, Error, Entry, isEmpty, returnedErrors}
 use Rattle.rules.specs.Calls as rules
+use Rattle.rules.specs.Events.{entryCode, Kept}
+use Rattle.rules.proofs.Events.{kept-answered}
 use Rattle.rules.specs.Calls.{bookAfter, reply, answerTo, answerWith, answerUnless, receivingRefused, receive, inSpace}
 use Rattle.errors.specs.declared.Errors.{Errors}
 use Rattle.errors.specs.Listed.{named, listed}
@@ -26,11 +23,12 @@ use Rattle.book.specs.declared.Book.{Book}
 use Rattle.book.specs.Viewed as book
 use Rattle.reception.specs.Submission.{submitted}
 use Rattle.reception.proofs.Listing.{listed-none}
-use Rattle.tender.specs.declared.Refusal.{Refusal}
-use Rattle.tender.specs.declared.Refusal.the-variants as refusal
+use Rattle.refusals.specs.declared.Refusal.{Refusal}
+use Rattle.refusals.specs.declared.Refusal.the-variants as refusal
+use Rattle.refusals.specs.Conditions.{refusalNumber, isSome}
 use Rattle.tender.specs.declared.Tender.{Tender}
 use Rattle.tender.specs.declared.Received.{Received}
-use Rattle.tender.specs.Viewed.{viewed, Given, refusalNumber, isSome, answerIn, answerOf, errorsIn, replyLength, unlessConfirmed}
+use Rattle.tender.specs.Viewed.{viewed, Given, answerIn, answerOf, errorsIn, replyLength, unlessConfirmed}
 use Rattle.tender.specs.Calls.{Receives}
 use Rattle.tender.specs.Parts.{answeredBy}
 
@@ -57,24 +55,11 @@ module _ (t : Tender) (g : Given t) (x : Reception) (r : Received)
       go none p q = absurd (false≢true q)
       go (some n) p q = as-refused n (ap refusalNumber e ∙ p) (h ∙ p)
 
--- a message held or not, the codes stay
-hold-code : (s : Submission) (e : Entry) → hold s e .code ≡ e .code
-unfolding hold
-hold-code s e = go (takes s e)
-  where
-    go : (b : Bool) → (cond b (record { code = e .code; held = some (s .time); bids = s .bids }) e) .code ≡ e .code
-    go true = refl
-    go false = refl
-
-hold-codes : (s : Submission) (es : List Entry) → book.codesIn (map (hold s) es) ≡ book.codesIn es
+-- the codes of a book, by its entries
+codes-entries : (es : List Entry) → book.codesIn es ≡ map entryCode es
 unfolding book.codesIn
-hold-codes s [] = refl
-hold-codes s (e ∷ es) = ap₂ (λ (c : ℕ) (cs : List ℕ). c ∷ cs) (hold-code s e) (hold-codes s es)
-
-codes-after : (errors : List Error) (t : Terms) (es : List Entry) (x : Reception) → book.codesIn (bookAfter errors t es x) ≡ book.codesIn es
-unfolding bookAfter
-codes-after [] t es x = hold-codes (submission t x) es
-codes-after (e ∷ errors) t es x = refl
+codes-entries [] = refl
+codes-entries (e ∷ es) = ap (λ (cs : List ℕ). e .code ∷ cs) (codes-entries es)
 
 errors-told : (es : List Error) (n : ℕ) → es ≡ errorsIn (answerTo es n)
 unfolding answerTo
@@ -119,8 +104,13 @@ module _ (t : Tender) (g : Given t) (x : Reception) (e : Errors) (n : ℕ) (next
   entries : book.viewed next ≡ bookAfter errors (viewed t .terms) (viewed t .book) x
   entries = ap (λ (p : List Error × List Entry). p .1) left
 
+  -- the codes stay, since the tender that the rules leave is kept too
+  after-is : Kept (answeredBy (viewed t) x .1)
+  after-is = kept-answered (viewed t) g errors x
+
   codes : book.codesIn (book.viewed next) ≡ book.codesIn (book.viewed (t .book))
-  codes = ap book.codesIn entries ∙ codes-after errors (viewed t .terms) (viewed t .book) x
+  unfolding answerWith
+  codes = ap book.codesIn entries ∙ codes-entries (bookAfter errors (viewed t .terms) (viewed t .book) x) ∙ after-is .entries
 
   bytes : after ≡ inSpace (text (listed e)) (x .space)
   unfolding overlay
@@ -130,7 +120,7 @@ module _ (t : Tender) (g : Given t) (x : Reception) (e : Errors) (n : ℕ) (next
   answer = ap₂ answerTo found (wrote .past ∙ zero-add (length (text (listed e))) ∙ ap (λ (es : List Error). length (text es)) found)
 
   tender-is : viewed tender ≡ record { terms = viewed t .terms; state = viewed t .state; book = bookAfter errors (viewed t .terms) (viewed t .book) x }
-  tender-is = λ i. record { terms = terms.viewed (t .terms) (codes i); state = viewed t .state; book = entries i }
+  tender-is = λ i. record { terms = terms.viewed (t .terms) (admitting (codes i)); state = viewed t .state; book = entries i }
 
   pub receives-answered : Receives t (answeredBy (viewed t) x) (record { refusal = refusal.None; errors = e; length = n; tender = tender }) after
   unfolding answerWith
@@ -141,23 +131,5 @@ module _ (t : Tender) (g : Given t) (x : Reception) (e : Errors) (n : ℕ) (next
         length-is = length-told (listed e) n;
         few = few;
         unchanged = unchanged-told (listed e) n t tender (λ h. ap (λ (b : Book). record { state = t .state; terms = t .terms; book = b }) (same (some-listed (e .codes) (e .n) h)));
-        given = record { rises = ap rising codes ∙ g .rises };
+        given = subst Kept (sym tender-is) after-is;
       }
-
--- what the reader says of a message
-module _ (m : List ℕ) (a : ReadAnswer) (f : Fields) (e : _≡_ {A = Option ℕ × Fields} (readRefusal a, f) (reading m)) where
-  pub number-read : firstHolding ((12, unreadable m) ∷ []) ≡ readRefusal a
-  unfolding reading
-  number-read = sym (ap (λ (p : Option ℕ × Fields). p .0) e)
-
-  pub readable-read : readRefusal a ≡ none → readable layout6G1 m ≡ true
-  unfolding firstHolding
-  readable-read h = go (readable layout6G1 m) refl (number-read ∙ h)
-    where
-      go : (b : Bool) → readable layout6G1 m ≡ b → cond {A = Option ℕ} (not b) (some 12) none ≡ none → b ≡ true
-      go true q p = refl
-      go false q p = absurd (false≢true (sym (ap isSome p)))
-
-  pub fields-read : readRefusal a ≡ none → f ≡ fieldsOf m
-  unfolding reading
-  fields-read h = ap (λ (p : Option ℕ × Fields). p .1) e ∙ ap (λ (l : Option ℕ). unlessRefused l noFields (fieldsOf m)) (number-read ∙ h)

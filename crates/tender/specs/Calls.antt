@@ -5,18 +5,20 @@ use mathlib.Core.List.{List}
 use mathlib.Core.Option.{Option}
 use Prim.Native.Nat.{ℕ, _≤_}
 use Rattle.envelope.specs.Refusals.{unlessRefused}
+use Rattle.rules.specs.Opening.{Admission}
 use Rattle.rules.specs.Calls as rules
 use Rattle.errors.specs.Listed.{listed}
 use Rattle.terms.specs.Viewed.{openRefusal}
+use Rattle.refusals.specs.Conditions.{refusalNumber}
 use Rattle.tender.specs.declared.Tender.{Tender}
 use Rattle.tender.specs.declared.Opened.{Opened}
 use Rattle.tender.specs.declared.Received.{Received}
 use Rattle.tender.specs.declared.Changed.{Changed}
 use Rattle.tender.specs.declared.Allotted.{Allotted}
-use Rattle.tender.specs.Viewed.{viewed, Given, refusalNumber, answerOf, errorsIn, replyLength, unlessConfirmed, allottedIn}
+use Rattle.tender.specs.Viewed.{viewed, Given, answerOf, errorsIn, replyLength, unlessConfirmed, allottedIn}
 
-pub record Opens (m codes : List ℕ) (r : Opened) : Type 0 where
-  pub equal : (openRefusal (r .answer), viewed (r .tender)) ≡ rules.openTender m codes
+pub record Opens (m : List ℕ) (a : Admission) (r : Opened) : Type 0 where
+  pub equal : (openRefusal (r .answer), viewed (r .tender)) ≡ rules.openTender m a
   pub given : Given (r .tender)
 
 -- the reply space is `after` the call

@@ -6,58 +6,39 @@ use book::amounts_of;
 use book::columns_of;
 use book::new_book;
 use book::up_to_64;
-use calendar::valid_date;
-use calendar::valid_time;
 use errors::Errors;
 use errors::none;
-use internal::allot_bids;
-use internal::close_refusal;
-use internal::held_in;
-use internal::outcome_of;
-use internal::revoke_refusal;
 use marginal::MarginalRate;
+use outcomes::internal::allot_bids;
+use outcomes::internal::held_in;
+use outcomes::internal::outcome_of;
 use places::Amount;
 use reception::internal::put_reply;
+pub use refusals::Refusal;
+pub use refusals::State;
+use refusals::close_refusal;
+pub use refusals::is_refused;
+pub use refusals::number_of;
+use refusals::revoke_refusal;
 use terms::OpenAnswer;
 use terms::Terms;
 use terms::is_opened;
 ghost use mathlib.Core.Path.{_≡_};
-ghost use mathlib.Core.List.{[], _∷_};
-ghost use Rattle.envelope.specs.Refusals.{firstHolding, orZero};
-ghost use Rattle.rules.specs.Calls.{clockInvalid, receive, close, revoke};
+ghost use mathlib.Core.List.{[]};
+ghost use Rattle.rules.specs.Opening.{admitting};
+ghost use Rattle.rules.specs.Calls.{receive, close, revoke};
 ghost use Rattle.errors.specs.Listed.{listed};
 ghost use Rattle.checks.specs.Columns.{receptionOf};
-ghost use Rattle.tender.specs.declared.Tender.{Tender};
-ghost use Rattle.tender.specs.Viewed.{stateOf, viewed, Given, refusalNumber, isSome, inStateOf};
+ghost use Rattle.refusals.specs.Conditions.{stateOf, refusalNumber};
+ghost use Rattle.tender.specs.Viewed.{viewed, Given, inStateOf};
 ghost use Rattle.tender.specs.Calls.{Opens, Receives, Changes, Allots};
-ghost use Rattle.tender.specs.Parts.{notOpen, changedUnless};
-
-pub enum State {
-    Open,
-    Closed,
-    Announced,
-    Revoked,
-}
+ghost use Rattle.tender.specs.Parts.{changedUnless};
 
 // What was announced and for whom, what is held for each admitted code, and where the tender stands.
 pub struct Tender {
     state: State,
     terms: Terms,
     book: Book,
-}
-
-// Why a call is refused, or that it is not.
-pub enum Refusal {
-    None,
-    Revoked,
-    Over,
-    ClockInvalid,
-    SpaceShort,
-    Unreadable,
-    BeforeCutOff,
-    Open,
-    Announced,
-    BidsExceed,
 }
 
 // Why an opening is refused, or that it is not, and the tender.
@@ -90,7 +71,7 @@ pub struct Allotted {
 
 // The tender of an announcement and the codes admitted to it; a refused opening gives an empty one that is revoked.
 pub fn open(m: &[u8], codes: &[u32]) -> Opened
-    ensures { λ r. ⌜ Opens (now (m .entry)) (now (codes .entry)) r ⌝ }
+    ensures { λ r. ⌜ Opens (now (m .entry)) (admitting (now (codes .entry))) r ⌝ }
 {
     let opening = terms::open(m, codes);
     let answer = opening.answer;
@@ -115,64 +96,6 @@ pub fn open(m: &[u8], codes: &[u32]) -> Opened
                 book,
             },
         }
-    }
-}
-
-// Whether a refusal is one.
-pub fn is_refused(r: Refusal) -> bool
-    ensures { λ b. ⌜ b ≡ isSome (refusalNumber r) ⌝ }
-{
-    match r {
-        Refusal::None => false,
-        Refusal::Revoked => true,
-        Refusal::Over => true,
-        Refusal::ClockInvalid => true,
-        Refusal::SpaceShort => true,
-        Refusal::Unreadable => true,
-        Refusal::BeforeCutOff => true,
-        Refusal::Open => true,
-        Refusal::Announced => true,
-        Refusal::BidsExceed => true,
-    }
-}
-
-// Document 01's number of a refusal, and zero where there is none.
-pub fn number_of(r: Refusal) -> u64
-    ensures { λ n. ⌜ n ≡ orZero (refusalNumber r) ⌝ }
-{
-    match r {
-        Refusal::None => 0,
-        Refusal::Revoked => 8,
-        Refusal::Over => 9,
-        Refusal::ClockInvalid => 10,
-        Refusal::SpaceShort => 11,
-        Refusal::Unreadable => 12,
-        Refusal::BeforeCutOff => 13,
-        Refusal::Open => 14,
-        Refusal::Announced => 15,
-        Refusal::BidsExceed => 16,
-    }
-}
-
-// Condition 10.
-fn clock_refusal(date: u64, time: u64) -> Refusal
-    ensures { λ r. ⌜ refusalNumber r ≡ firstHolding ((10, clockInvalid date time) ∷ []) ⌝ }
-{
-    if valid_date(date) & valid_time(time) {
-        return Refusal::None;
-    }
-    Refusal::ClockInvalid
-}
-
-// Conditions 8, 9 and 10.
-fn not_open(state: State, date: u64, time: u64) -> Refusal
-    ensures { λ r. ⌜ ((t : Tender) → t .state ≡ state → refusalNumber r ≡ notOpen (viewed t) date time) ⌝ }
-{
-    match state {
-        State::Open => clock_refusal(date, time),
-        State::Closed => Refusal::Over,
-        State::Announced => Refusal::Over,
-        State::Revoked => Refusal::Revoked,
     }
 }
 

@@ -9,7 +9,7 @@ use Rattle.calendar.specs.Calendar.{validDate}
 use Rattle.layout.specs.Fields.{readable}
 use Rattle.announcement.specs.declared.Announcement.{Announcement}
 use Rattle.announcement.specs.Announcement.{layout6G0, announcementOf, reading}
-use Rattle.rules.specs.Opening.{isDate, isTime, wellFormed, notAnnouncement, openingRefused}
+use Rattle.rules.specs.Opening.{Admission, isDate, isTime, wellFormed, notAnnouncement, openingRefused}
 use Rattle.rules.proofs.Opening.{next-condition}
 use Rattle.terms.specs.declared.OpenAnswer.{OpenAnswer}
 use Rattle.terms.specs.declared.OpenAnswer.the-variants.{Opened, NotAnnouncement, OtherOrigin, Malformed, UnknownType, Impossible, Disordered, BadCodes}
@@ -32,9 +32,9 @@ unfolding reading
 read-announcement m a e = ap (λ (p : Bool × Announcement). p .1) e ∙ rw (read-readable m true a e)
 
 -- an opening that is not refused has an announcement to read
-pub opened-readable : (m codes : List ℕ) → openingRefused m codes ≡ none → readable layout6G0 m ≡ true
+pub opened-readable : (m : List ℕ) (a : Admission) → openingRefused m a ≡ none → readable layout6G0 m ≡ true
 unfolding openingRefused notAnnouncement
-opened-readable m codes h = not-false (readable layout6G0 m) (next-condition 1 (not (readable layout6G0 m)) _ h .0)
+opened-readable m a h = not-false (readable layout6G0 m) (next-condition 1 (not (readable layout6G0 m)) _ h .0)
 
 -- an answer is that the tender is opened, or has a number
 pub opened-none : (a : OpenAnswer) → isOpened a ≡ true → openRefusal a ≡ none

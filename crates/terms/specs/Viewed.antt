@@ -12,7 +12,7 @@ use Rattle.announcement.specs.declared.References.{References}
 use Rattle.announcement.specs.declared.Announcement.{Announcement}
 use Rattle.announcement.specs.Announcement.{datesOrdered}
 use Rattle.rules.specs.Opening as rules
-use Rattle.rules.specs.Opening.{isDate, isTime, openingRefused, termsOf, noTerms}
+use Rattle.rules.specs.Opening.{Admission, admitting, isDate, isTime, openingRefused, termsOf, noTerms}
 use Rattle.terms.specs.declared.Terms as declared
 use Rattle.terms.specs.declared.Opening.{Opening}
 use Rattle.terms.specs.declared.OpenAnswer.{OpenAnswer}
@@ -39,9 +39,9 @@ isOpened Impossible = false
 isOpened Disordered = false
 isOpened BadCodes = false
 
--- the terms of the code, with the codes that the book holds, as the terms of the rules
-abbrev pub viewed : declared.Terms → List ℕ → rules.Terms
-viewed t codes =
+-- the terms of the code, with the admission that the book tells, as the terms of the rules
+abbrev pub viewed : declared.Terms → Admission → rules.Terms
+viewed t a =
     record {
       identifier = t .identifier;
       side = t .side;
@@ -54,19 +54,19 @@ viewed t codes =
       maximum = t .maximum .0;
       allocation = t .allocation .0;
       limit = t .limit .0;
-      codes = codes;
+      admission = a;
     }
 
--- the refusal of opening and the terms, which are none where it is refused; a refused opening admits no code
-unfoldable pub openingTerms : List ℕ → List ℕ → Option ℕ × rules.Terms
-openingTerms m codes = (openingRefused m codes, unlessRefused (openingRefused m codes) noTerms (termsOf m codes))
+-- the refusal of opening and the terms, which are none where it is refused; a refused opening admits nobody
+unfoldable pub openingTerms : List ℕ → Admission → Option ℕ × rules.Terms
+openingTerms m a = (openingRefused m a, unlessRefused (openingRefused m a) noTerms (termsOf m a))
 
-unfoldable pub codesUnlessRefused : List ℕ → List ℕ → List ℕ
-codesUnlessRefused m codes = unlessRefused (openingRefused m codes) [] codes
+unfoldable pub admittedUnless : List ℕ → Admission → Admission
+admittedUnless m a = unlessRefused (openingRefused m a) (admitting []) a
 
 -- what opening promises of an answer and terms
-abbrev pub OpensTerms : List ℕ → List ℕ → Opening → Type 0
-OpensTerms m codes r = _≡_ {A = Option ℕ × rules.Terms} (openRefusal (r .answer), viewed (r .terms) (codesUnlessRefused m codes)) (openingTerms m codes)
+abbrev pub OpensTerms : List ℕ → Admission → Opening → Type 0
+OpensTerms m a r = _≡_ {A = Option ℕ × rules.Terms} (openRefusal (r .answer), viewed (r .terms) (admittedUnless m a)) (openingTerms m a)
 
 -- the parts of condition 3
 unfoldable pub referencesFormed : References → Bool

@@ -20,13 +20,13 @@ use places::Rate;
 use texts::same;
 ghost use mathlib.Core.Path.{_≡_};
 ghost use mathlib.Core.Bool.{true};
-ghost use mathlib.Core.List.{List, []};
-ghost use Prim.Native.Nat.{ℕ, _<_};
+ghost use mathlib.Core.List.{[]};
+ghost use Prim.Native.Nat.{_<_};
 ghost use lib.ListN.{length};
 ghost use Rattle.layout.specs.Fields.{readable};
 ghost use Rattle.envelope.specs.Refusals.{orZero};
 ghost use Rattle.announcement.specs.Announcement.{layout6G0, announcementOf, reading};
-ghost use Rattle.rules.specs.Opening.{isDate, isTime, wellFormed, otherOrigin, isUnknown, impossible, badCodes, openingRefused, sideOf, termsOf, noTerms};
+ghost use Rattle.rules.specs.Opening.{Admission, admitting, isDate, isTime, wellFormed, otherOrigin, isUnknown, impossible, badCodes, openingRefused, sideOf, termsOf, noTerms};
 ghost use Rattle.terms.specs.Viewed.{referencesFormed, datesFormed, risesFrom, datesInOrder, openRefusal, isOpened, viewed, OpensTerms};
 
 // Why an opening is refused, or that it is not.
@@ -199,7 +199,7 @@ fn in_order(a: Announcement) -> bool
 // The first condition of opening that holds, or that none does.
 fn refusal(m: &[u8], r: Reading, codes: &[u32]) -> OpenAnswer
     requires { ⌜ (r .readable, r .announcement) ≡ reading (now m) ⌝ }
-    ensures { λ a. ⌜ openRefusal a ≡ openingRefused (now (m .entry)) (now (codes .entry)) ⌝ }
+    ensures { λ a. ⌜ openRefusal a ≡ openingRefused (now (m .entry)) (admitting (now (codes .entry))) ⌝ }
 {
     if !r.readable {
         return OpenAnswer::NotAnnouncement;
@@ -245,7 +245,7 @@ fn eleven(s: &[u8]) -> [u8; 11]
 // What a tender keeps of an announcement.
 fn terms_of(m: &[u8], a: Announcement) -> Terms
     requires { ⌜ (readable layout6G0 (now m) ≡ true) × (a ≡ announcementOf (now m)) ⌝ }
-    ensures { λ r. ⌜ ((codes : List ℕ) → viewed r codes ≡ termsOf (now (m .entry)) codes) ⌝ }
+    ensures { λ r. ⌜ ((a : Admission) → viewed r a ≡ termsOf (now (m .entry)) a) ⌝ }
 {
     let kind = a.kind;
     let side = side_of(kind);
@@ -275,7 +275,7 @@ fn terms_of(m: &[u8], a: Announcement) -> Terms
 
 // The terms of the tender that a refused opening gives back.
 pub fn no_terms() -> Terms
-    ensures { λ r. ⌜ viewed r [] ≡ noTerms ⌝ }
+    ensures { λ r. ⌜ viewed r (admitting []) ≡ noTerms ⌝ }
 {
     Terms {
         identifier: [0; 11],
@@ -326,7 +326,7 @@ pub fn number_of_answer(a: OpenAnswer) -> u64
 
 // Opens a tender: the terms of the announcement, or why it is refused and no terms.
 pub fn open(m: &[u8], codes: &[u32]) -> Opening
-    ensures { λ r. ⌜ OpensTerms (now (m .entry)) (now (codes .entry)) r ⌝ }
+    ensures { λ r. ⌜ OpensTerms (now (m .entry)) (admitting (now (codes .entry))) r ⌝ }
 {
     let r = read(m);
     let answer = refusal(m, r, codes);

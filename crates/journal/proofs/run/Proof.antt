@@ -22,9 +22,10 @@ use Rattle.book.specs.Viewed.{rateOf, amountOf, columnsOf, bookOf, bookIn}
 use Rattle.book.proofs.Book as book
 use Rattle.book.proofs.Order.{columns-back}
 use Rattle.book.proofs.Storing.{Sized, book-stored}
-use Rattle.tender.specs.declared.internal.Accepted.{Accepted}
-use Rattle.tender.proofs.internal.Accepted as accepted-row
+use Rattle.outcomes.specs.declared.internal.Accepted.{Accepted}
+use Rattle.outcomes.proofs.internal.Accepted as accepted-row
 use Rattle.log.specs.Steps.{holdsField}
+use Rattle.log.specs.Theorems.{KeptTender}
 use Rattle.log.proofs.Walks.{held-head}
 use Rattle.steps.specs.declared.Change.{Change}
 use Rattle.steps.specs.declared.Change.the-variants as change
@@ -34,7 +35,7 @@ use Rattle.steps.specs.Parts.{Parts, parts, after, Possible}
 use Rattle.journal.specs.declared.Journal.{Journal}
 use Rattle.journal.specs.Viewed.{viewed, Given}
 use Rattle.journal.proofs.Running.{leads-to, starts-from, ends-at}
-use Rattle.journal.proofs.Logging.{journalOf, wrote-within, field-taken, from-parts, Arrives, arrives-at, unchanged, ended, admitted, opened, in-state, accepted, Logging, none-logged, room-left, one-logged}
+use Rattle.journal.proofs.Logging.{journalOf, wrote-within, field-taken, from-parts, kept-after, Arrives, arrives-at, unchanged, ended, admitted, opened, in-state, accepted, Logging, none-logged, room-left, one-logged}
 use Rattle.journal.proofs.run.Statement.{statement}
 use Rattle.journal.proofs.run.Tie as tie
 
@@ -319,31 +320,37 @@ module _ (c : tie.At-match-came Inv-loop μ-loop) where
   unended-then = unended (headOf stepped .before)
 
   -- by the change that was found
-  by : (x : Change) → taken .change ≡ x → (Possible before (fieldIn (headOf stepped)) (taken .accepted) x → Arrived x) → Arrived (taken .change)
-  by x e h = subst Arrived (sym e) (h (can-be stepped x e))
+  abbrev TenderKept : Change → Type 0
+  TenderKept x = KeptTender (after before (fieldIn (headOf stepped)) (taken .terms) (taken .accepted) x .tender)
+
+  kept-now : TenderKept (taken .change)
+  kept-now = kept-after before given _ (fieldIn (headOf stepped)) _ _ taken (stepped .step .ensures)
+
+  by : (x : Change) → taken .change ≡ x → (Possible before (fieldIn (headOf stepped)) (taken .accepted) x → TenderKept x → Arrived x) → Arrived (taken .change)
+  by x e h = subst Arrived (sym e) (h (can-be stepped x e) (subst TenderKept e kept-now))
 
   arrived : Arrived (taken .change)
   arrived = elim (c .match .came) [
-    | inl x ↦ by change.None (x .1 .given .1) (λ q. arrives-at (λ i. journalOf ((x .2 ∙ unended-then) i) (parts (x .3 i) (x .4 i) (x .5 i) (x .6 i) (x .7 i) (bookIn (x .8 i)))) (unchanged before given full book-sized))
-    | inr (inl x) ↦ by change.Ended (x .1 .given .1) (λ q. arrives-at (λ i. journalOf (x .2 i) (parts (x .3 i) (x .4 i) (x .5 i) (x .6 i) (x .7 i) (bookIn (x .8 i)))) (ended before given full book-sized))
+    | inl x ↦ by change.None (x .1 .given .1) (λ q k. arrives-at (λ i. journalOf ((x .2 ∙ unended-then) i) (parts (x .3 i) (x .4 i) (x .5 i) (x .6 i) (x .7 i) (bookIn (x .8 i)))) (unchanged before given full book-sized))
+    | inr (inl x) ↦ by change.Ended (x .1 .given .1) (λ q k. arrives-at (λ i. journalOf (x .2 i) (parts (x .3 i) (x .4 i) (x .5 i) (x .6 i) (x .7 i) (bookIn (x .8 i)))) (ended before given full book-sized))
     | inr (inr (inl x)) ↦
         by (change.Admitted (x .1 .given .0 .0)) (x .1 .given .1)
-        (λ q. arrives-at (λ i. journalOf ((x .5 ∙ unended-then) i) (parts (x .6 i) (x .7 i) (x .8 i) (x .9 i) (x .10 i) (bookIn (x .11 i)))) (admitted before given full book-sized (fieldIn (headOf stepped)) (x .4 .result) (x .1 .given .0 .0) (x .4 .ensures .0) (q .0) (x .4 .ensures .1)))
+        (λ q k. arrives-at (λ i. journalOf ((x .5 ∙ unended-then) i) (parts (x .6 i) (x .7 i) (x .8 i) (x .9 i) (x .10 i) (bookIn (x .11 i)))) (admitted before given full book-sized (fieldIn (headOf stepped)) (x .4 .result) (x .1 .given .0 .0) (x .4 .ensures .0) (q .0) (x .4 .ensures .1)))
     | inr (inr (inr (inl x))) ↦
         by change.Opened (x .1 .given .1)
-        (λ q. arrives-at (λ i. journalOf ((x .7 ∙ unended-then) i) (parts (x .8 i) (x .9 i) (x .10 i) (x .11 i) (x .12 i) ((ap bookIn (x .13) ∙ of-book (x .5 .result) (x .6 .result) (x .6 .ensures)) i)))
-        (opened before given full book-sized (taken .terms) (x .5 .result) (q .0) (q .1) (x .5 .ensures ∙ ap (λ (k : ℕ). newBook (take 64 (take k (before .codes)))) (sub-zero (before .n))) (sized (x .5 .result) _ (x .5 .ok))))
-    | inr (inr (inr (inr (inl x)))) ↦ by (change.InState (x .1 .given .0 .0)) (x .1 .given .1) (λ q. arrives-at (λ i. journalOf ((x .3 ∙ unended-then) i) (parts (x .4 i) (x .5 i) (x .6 i) (x .7 i) (x .8 i) (bookIn (x .9 i)))) (in-state before given full book-sized (x .1 .given .0 .0) q))
+        (λ q k. arrives-at (λ i. journalOf ((x .7 ∙ unended-then) i) (parts (x .8 i) (x .9 i) (x .10 i) (x .11 i) (x .12 i) ((ap bookIn (x .13) ∙ of-book (x .5 .result) (x .6 .result) (x .6 .ensures)) i)))
+        (opened before given full book-sized (taken .terms) (x .5 .result) q k (x .5 .ensures ∙ ap (λ (k : ℕ). newBook (take 64 (take k (before .codes)))) (sub-zero (before .n))) (sized (x .5 .result) _ (x .5 .ok))))
+    | inr (inr (inr (inr (inl x)))) ↦ by (change.InState (x .1 .given .0 .0)) (x .1 .given .1) (λ q k. arrives-at (λ i. journalOf ((x .3 ∙ unended-then) i) (parts (x .4 i) (x .5 i) (x .6 i) (x .7 i) (x .8 i) (bookIn (x .9 i)))) (in-state before given full book-sized (x .1 .given .0 .0) q k))
     | inr (inr (inr (inr (inr x)))) ↦
         let t = taken-places stepped in
-        let k = loopOf (headOf stepped .before) .loop .columns in
+        let columns = loopOf (headOf stepped .before) .loop .columns in
         let a = taken .accepted in
         let book =
         ap bookIn (x .15)
-        ∙ (λ i. bookOf (k .n) (k .codes) (set (k .held) (a .at) (a .time)) (set (k .has) (a .at) true) (x .6 .ensures i) (x .8 .ensures i))
-        ∙ book-stored k (a .at) (a .time) (a .rates) (a .amounts) in
+        ∙ (λ i. bookOf (columns .n) (columns .codes) (set (columns .held) (a .at) (a .time)) (set (columns .has) (a .at) true) (x .6 .ensures i) (x .8 .ensures i))
+        ∙ book-stored columns (a .at) (a .time) (a .rates) (a .amounts) in
         by change.Accepted (x .1 .given .1)
-        (λ q. arrives-at (λ i. journalOf ((x .9 ∙ unended-then) i) (parts (x .10 i) (x .11 i) (x .12 i) (x .13 i) (x .14 i) (book i))) (accepted before given full book-sized a (q .0) (q .1) (t .0) (t .1)))
+        (λ q k. arrives-at (λ i. journalOf ((x .9 ∙ unended-then) i) (parts (x .10 i) (x .11 i) (x .12 i) (x .13 i) (x .14 i) (book i))) (accepted before given full book-sized a (q .0) (q .1) k (t .0) (t .1)))
   ]
 
 add-length : tie.Need-add-length Inv-loop μ-loop

@@ -1,8 +1,7 @@
 -- `tender::in_state_unless` meets its contract. Assumes nothing.
 use mathlib.Core.Path.{refl, sym, _∙_}
-use Rattle.rules.specs.Calls as rules
-use Rattle.tender.specs.Viewed.{stateOf, viewed, refusalNumber}
-use Rattle.tender.proofs.Conditions.{none-of}
+use Rattle.refusals.specs.Conditions.{refusalNumber}
+use Rattle.refusals.proofs.Conditions.{none-of}
 use Rattle.tender.proofs.Changing.{changes-refused, changes-state}
 use borrow.Author.Needs.{needs}
 use Rattle.tender.proofs.in_state_unless.Statement.{statement}
@@ -14,7 +13,7 @@ is-refused-requires c κs = search needs
 returns : tie.Need-returns
 returns c =
     let a = c .before .before in
-    (refl, changes-refused (a .args .t) (a .pre) (refusalNumber (a .args .refusal)) (rules.inState (stateOf (a .args .state)) (viewed (a .args .t))) (a .args .refusal) refl (sym (c .before .is-refused .ensures) ∙ c .if1 .taken))
+    (refl, changes-refused (a .args .t) (a .pre) (a .args .refusal) (a .args .state) (sym (c .before .is-refused .ensures) ∙ c .if1 .taken))
 
 in-state-requires : tie.Need-in-state-requires
 in-state-requires c κs = search needs

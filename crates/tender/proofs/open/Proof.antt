@@ -2,6 +2,7 @@
 use borrow.Author.Needs.{needs}
 use mathlib.Core.Path.{sym, _∙_}
 use denote.Ref.{now}
+use Rattle.rules.specs.Opening.{admitting}
 use Rattle.tender.proofs.Opening.{opens, opens-nothing}
 use Rattle.tender.proofs.open.Statement.{statement}
 use Rattle.tender.proofs.open.Tie as tie
@@ -32,14 +33,14 @@ returns c =
     let i = c .before .before in
     let o = i .before .before in
     let a = o .before .before .before .args in
-    opens (now (a .m)) (now (a .codes)) (o .«open» .result .answer) (o .«open» .result .terms) (o .«open» .ensures) (c .new-book .result) (sym (i .is-opened .ensures) ∙ c .before .if1 .taken) (c .new-book .ensures)
+    opens (now (a .m)) (admitting (now (a .codes))) (o .«open» .result .answer) (o .«open» .result .terms) (o .«open» .ensures) (c .new-book .result) (sym (i .is-opened .ensures) ∙ c .before .if1 .taken) (c .new-book .ensures)
 
 returns-2 : tie.Need-returns-2
 returns-2 c =
     let i = c .before .before .before in
     let o = i .before .before in
     let a = o .before .before .before .args in
-    opens-nothing (now (a .m)) (now (a .codes)) (o .«open» .result .answer) (o .«open» .result .terms) (o .«open» .ensures) (c .new-book2 .result) (sym (i .is-opened .ensures) ∙ c .before .before .if1 .left) (c .new-book2 .ensures)
+    opens-nothing (now (a .m)) (admitting (now (a .codes))) (o .«open» .result .answer) (o .«open» .result .terms) (o .«open» .ensures) (c .new-book2 .result) (sym (i .is-opened .ensures) ∙ c .before .before .if1 .left) (c .new-book2 .ensures)
 
 pub open-spec : {M : Type 1} → statement M
 open-spec =

@@ -26,7 +26,7 @@ returns c =
     let text = c .before .eleven .ensures ∙ c .before .before .bytes-in .ensures .0 in
     let side = c .before .before .before .before .before .before .before .before .before .before .side-of .ensures ∙ ap (λ (a : Announcement). sideOf (a .kind)) says in
     let cutoff = c .number-of .ensures ∙ ap (λ (a : Announcement). numberIn (a .cutoff)) says in
-    λ codes i.
+    λ admission i.
     record {
       identifier = text i;
       side = side i;
@@ -39,7 +39,7 @@ returns c =
       maximum = says i .characteristics .maximum .0;
       allocation = says i .characteristics .allocation .0;
       limit = says i .characteristics .limit .0;
-      codes = codes;
+      admission = admission;
     }
 
 pub terms-of-spec : {M : Type 1} → statement M

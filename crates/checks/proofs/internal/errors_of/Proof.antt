@@ -43,9 +43,9 @@ returns c =
     let n1 = c .before .before .before .field-errors .ensures .1 in
     let n2 = c .before .before .place-errors .ensures .1 in
     let n3 = c .with .ensures .1 in (
-      λ codes space k.
-          let h1 = c .before .before .before .field-errors .ensures .0 codes k ∙ ap (λ (f : Fields). headErrors (viewed (a .t) codes) m f) e in
-          let h2 = c .before .before .place-errors .ensures .0 ∙ ap (λ (f : Fields). l1 ++ columnErrors (a .t) (f .places)) e ∙ ap (λ (es : List Error). l1 ++ es) (column-errors (a .t) codes m) in
+      λ admission space k.
+          let h1 = c .before .before .before .field-errors .ensures .0 admission k ∙ ap (λ (f : Fields). headErrors (viewed (a .t) admission) m f) e in
+          let h2 = c .before .before .place-errors .ensures .0 ∙ ap (λ (f : Fields). l1 ++ columnErrors (a .t) (f .places)) e ∙ ap (λ (es : List Error). l1 ++ es) (column-errors (a .t) admission m) in
           added [] l2 l3 _ _ (added [] l1 l2 _ _ h1 h2) h3,
       omega arith,
     )

@@ -114,7 +114,7 @@ returns c =
     let n6 = c .before .before .before .before .before .before .before .before .before .before .before .sender-errors .ensures .1 in
     let n7 = c .before .before .before .before .before .before .before .before .before .before .before .before .with .ensures .1 in
     let n8 = c .before .before .before .before .before .before .before .before .before .before .before .before .before .before .none .ensures .1 in
-    (λ codes k. added [] l7 l8 _ _ (added [] l6 l7 _ _ (added [] l5 l6 _ _ (added [] l4 l5 _ _ (added [] l3 l4 _ _ (added [] l2 l3 _ _ (upTo2 codes k) h3) h4) h5) h6) h7) h8, omega arith)
+    (λ admission k. added [] l7 l8 _ _ (added [] l6 l7 _ _ (added [] l5 l6 _ _ (added [] l4 l5 _ _ (added [] l3 l4 _ _ (added [] l2 l3 _ _ (upTo2 (admission .codes) k) h3) h4) h5) h6) h7) h8, omega arith)
 
 pub field-errors-spec : {M : Type 1} → statement M
 field-errors-spec =

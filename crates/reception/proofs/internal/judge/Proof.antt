@@ -20,7 +20,7 @@ use Rattle.terms.specs.Viewed as terms
 use Rattle.bids.specs.Columns.{bidsFrom}
 use Rattle.book.specs.declared.Book.{Book}
 use Rattle.book.specs.declared.Found.the-variants.{At}
-use Rattle.book.specs.Viewed.{Lends, viewed, findFrom, codesIn, soundFrom, replaced}
+use Rattle.book.specs.Viewed.{Lends, viewed, findFrom, codesIn, admissionOf, soundFrom, replaced}
 use Rattle.book.proofs.Joining.{found-below}
 use Rattle.book.proofs.Order.{codes-lent}
 use Rattle.checks.specs.Columns.{receptionOf}
@@ -53,7 +53,7 @@ LendsTo c b = Lends b (c .args .n) (now (c .args .codes)) (now (c .args .held)) 
 
 -- the terms, the bids and the message, as the rules see them
 termsAt : tie.Start → Book → rules.Terms
-termsAt c b = terms.viewed (c .args .t) (codesIn (viewed b))
+termsAt c b = terms.viewed (c .args .t) (admissionOf b)
 
 bidsAt : tie.Start → List Bid
 bidsAt c = bidsFrom (c .args .f .places .rates) (c .args .f .places .amounts) 0 10
@@ -68,12 +68,11 @@ errors-are : (c : tie.After-errors-of) (b : Book) → LendsTo (c .before .before
 unfolding termsAt receptionAt
 errors-are c b l space =
     let f = c .before .before in
-    let codes = codesIn (viewed b) in
-    c .errors-of .ensures .0 codes space
+    c .errors-of .ensures .0 (admissionOf b) space
     (c .before .is-admitted .ensures
     ∙ ap isAt (f .find-in .ensures b (l .codes-are) (l .n-is))
     ∙ sym (admitted-is (viewed b) (f .before .before .number-of .result) 0)
-    ∙ ap (λ (n : ℕ). any (eqb n) codes) (f .before .before .number-of .ensures))
+    ∙ ap (λ (n : ℕ). any (eqb n) (codesIn (viewed b))) (f .before .before .number-of .ensures))
 
 sixteen : (c : tie.After-errors-of) → length (c .errors-of .result .codes) ≡ 16
 sixteen c = search needs

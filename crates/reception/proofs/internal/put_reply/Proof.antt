@@ -1,13 +1,17 @@
 -- `reception::internal::put_reply` meets its contract. Assumes nothing.
 use borrow.Author.Needs.{needs}
-use mathlib.Core.Path.{_≡_, sym, subst}
+use mathlib.Core.Path.{_≡_, sym, ap, ap₂, subst, _∙_}
 use mathlib.Core.List.{List}
 use Prim.Native.Nat.{ℕ}
 use native.Mathlib.Omega.{arith}
 use lib.ListN.{length}
 use denote.Ref.{now}
 use Rattle.output.specs.Output.{Wrote}
+use Rattle.output.proofs.Output.{said}
+use Rattle.texts.specs.Texts.{ascii}
+use Rattle.envelope.proofs.Promise.{message-length}
 use Rattle.rules.specs.Receiving.{Error}
+use Rattle.rules.specs.Replies.{confirmation}
 use Rattle.rules.specs.Calls.{reply}
 use Rattle.errors.specs.Listed.{listed}
 use Rattle.reception.proofs.Listing.{listed-none, listed-some, reply-some}
@@ -15,7 +19,10 @@ use Rattle.reception.proofs.internal.put_reply.Statement.{statement}
 use Rattle.reception.proofs.internal.put_reply.Tie as tie
 
 put-returned-requires : tie.Need-put-returned-requires
-put-returned-requires c κs = search needs
+put-returned-requires c κs =
+    let start = c .before .before .before .before .before in
+    let l = message-length (now (start .args .m)) (start .pre .0) in
+    (omega (arith, c .before .if1 .taken), start .pre .1 .0, omega (arith, l, start .pre .1 .1))
 
 same-length : tie.Need-same-length
 same-length c = search needs
@@ -33,8 +40,22 @@ returns c =
 slice-aggregate-put-confirmation : tie.Need-slice-aggregate-put-confirmation
 slice-aggregate-put-confirmation c = search needs
 
+bytes-in-requires : tie.Need-bytes-in-requires
+bytes-in-requires c κs = search needs
+
+bytes-in-requires-2 : tie.Need-bytes-in-requires-2
+bytes-in-requires-2 c κs = search needs
+
+slice-aggregate-put-confirmation-2 : tie.Need-slice-aggregate-put-confirmation-2
+slice-aggregate-put-confirmation-2 c = search needs
+
+eleven : (c : tie.Start) → length (c .args .t .identifier) ≡ 11
+eleven c = search needs
+
 put-confirmation-requires : tie.Need-put-confirmation-requires
-put-confirmation-requires c κs = search needs
+put-confirmation-requires c κs =
+    let start = c .before .before .before .before .before .before .before .before .before .before in
+    omega (arith, c .before .before .bytes-in .ensures .1, c .before .bytes-in2 .ensures .1, eleven start, start .pre .1 .1)
 
 same-length-2 : tie.Need-same-length-2
 same-length-2 c = search needs
@@ -42,9 +63,12 @@ same-length-2 c = search needs
 returns-2 : tie.Need-returns-2
 unfolding reply
 returns-2 c =
-    let a = c .before .before .before .before .before .before .before .before .before .before .args in
-    let none = listed-none (a .e .codes) (a .e .n) (omega (arith, c .before .before .before .before .before .before .if1 .left)) in
-    subst (λ (es : List Error). Wrote (now (a .space)) 0 (reply es (a .t .identifier) (now (a .m)) (a .time)) (c .before .before .put-confirmation .last .0) (c .before .before .put-confirmation .result)) (sym none) (c .before .before .put-confirmation .ensures .0)
+    let p = c .before .before in
+    let cro = p .before .before in
+    let a = cro .before .before .before .before .before .before .before .before .before .args in
+    let none = listed-none (a .e .codes) (a .e .n) (omega (arith, cro .before .before .before .before .before .if1 .left)) in
+    let text = ap₂ (λ (x y : List ℕ). confirmation (ascii "6G2") x y (a .time) (a .t .identifier)) (cro .before .bytes-in .ensures .0) (cro .bytes-in2 .ensures .0) in
+    said (text ∙ ap (λ (es : List Error). reply es (a .t .identifier) (now (a .m)) (a .time)) (sym none)) (p .put-confirmation .ensures)
 
 pub put-reply-spec : {M : Type 1} → statement M
 put-reply-spec =
@@ -54,6 +78,9 @@ put-reply-spec =
     same-length
     returns
     slice-aggregate-put-confirmation
+    bytes-in-requires
+    bytes-in-requires-2
+    slice-aggregate-put-confirmation-2
     put-confirmation-requires
     same-length-2
     returns-2)

@@ -10,7 +10,6 @@ use lib.Seq.{length-take-le}
 use Rattle.output.proofs.Output.{said, then}
 use Rattle.layout.specs.Fields.{field}
 use Rattle.texts.specs.Texts.{ascii}
-use Rattle.envelope.proofs.Promise.{message-length}
 use Rattle.rules.specs.Receiving.{Error}
 use Rattle.rules.specs.Replies.{errorTexts, returnedMessage}
 use Rattle.replies.proofs.Texts.{errors-field}
@@ -25,17 +24,13 @@ there : (c : tie.After-shown) → 0 < c .shown .result .n
 there c = omega arith
 
 put-requires : tie.Need-put-requires
-put-requires c κs =
-    let l = message-length (now (c .before .before .before .args .m)) (c .before .before .before .pre .0) in
-    omega arith
+put-requires c κs = search needs
 
 slice-aggregate-put-field : tie.Need-slice-aggregate-put-field
 slice-aggregate-put-field c = search needs
 
 put-field-requires : tie.Need-put-field-requires
-put-field-requires c κs =
-    let l = message-length (now (c .before .before .before .before .before .before .before .before .args .m)) (c .before .before .before .before .before .before .before .before .pre .0) in
-    omega arith
+put-field-requires c κs = search needs
 
 shown-requires : tie.Need-shown-requires
 shown-requires c κs = search needs
@@ -47,14 +42,10 @@ sub-put-head : tie.Need-sub-put-head
 sub-put-head c = search needs
 
 put-head-requires : tie.Need-put-head-requires
-put-head-requires c κs =
-    let l = message-length (now (c .before .before .before .before .before .before .before .before .before .before .before .before .before .args .m)) (c .before .before .before .before .before .before .before .before .before .before .before .before .before .pre .0) in
-    omega arith
+put-head-requires c κs = search needs
 
 put-texts-requires : tie.Need-put-texts-requires
-put-texts-requires c κs =
-    let l = message-length (now (c .before .before .before .before .before .before .before .before .before .before .before .before .before .before .before .before .before .args .m)) (c .before .before .before .before .before .before .before .before .before .before .before .before .before .before .before .before .before .pre .0) in
-    omega arith
+put-texts-requires c κs = search needs
 
 same-length : tie.Need-same-length
 same-length c = search needs

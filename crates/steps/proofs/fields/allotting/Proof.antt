@@ -8,7 +8,7 @@ use Rattle.rules.specs.Calls as rules
 use Rattle.rules.specs.Calls.{allottingRefused}
 use Rattle.book.specs.Viewed.{bookOf}
 use Rattle.log.specs.Steps.{onTender, allotted, allottingStep}
-use Rattle.tender.specs.declared.State.the-variants as state
+use Rattle.refusals.specs.declared.State.the-variants as state
 use Rattle.steps.specs.Parts.{Parts, parts, tenderIn, viewed, withTender}
 use Rattle.steps.proofs.Taking.{other-length, its-length, takes-as, takes-ended, takes-skipped, no-tender, on-tender, takes-state}
 use borrow.Author.Needs.{needs}

@@ -10,10 +10,11 @@ use lib.ListN.{length, take}
 use Rattle.output.specs.Output.{Wrote}
 use Rattle.output.proofs.Output.{said}
 use Rattle.rules.specs.Opening as rules
+use Rattle.rules.specs.Opening.{admitting}
 use Rattle.terms.specs.declared.Terms.{Terms}
 use Rattle.terms.specs.declared.OpenAnswer.{OpenAnswer}
 use Rattle.terms.specs.Viewed as terms
-use Rattle.terms.specs.Viewed.{openRefusal, codesUnlessRefused, openingTerms}
+use Rattle.terms.specs.Viewed.{openRefusal, admittedUnless, openingTerms}
 use Rattle.log.specs.Lines.{refusedLine}
 use Rattle.steps.specs.Parts.{parts}
 use Rattle.steps.proofs.Announcing.{announced, not-announced}
@@ -44,9 +45,9 @@ nothing-accepted-requires c κs = search needs
 
 -- the part of the codes that is lent is their first n
 told : (s codes : List ℕ) (n : ℕ) (a : OpenAnswer) (t : Terms)
-    → _≡_ {A = Option ℕ × rules.Terms} (openRefusal a, terms.viewed t (codesUnlessRefused s (take (n - 0) codes))) (openingTerms s (take (n - 0) codes))
-    → _≡_ {A = Option ℕ × rules.Terms} (openRefusal a, terms.viewed t (codesUnlessRefused s (take n codes))) (openingTerms s (take n codes))
-told s codes n a t h = subst (λ (k : ℕ). _≡_ {A = Option ℕ × rules.Terms} (openRefusal a, terms.viewed t (codesUnlessRefused s (take k codes))) (openingTerms s (take k codes))) (sub-zero n) h
+    → _≡_ {A = Option ℕ × rules.Terms} (openRefusal a, terms.viewed t (admittedUnless s (admitting (take (n - 0) codes)))) (openingTerms s (admitting (take (n - 0) codes)))
+    → _≡_ {A = Option ℕ × rules.Terms} (openRefusal a, terms.viewed t (admittedUnless s (admitting (take n codes)))) (openingTerms s (admitting (take n codes)))
+told s codes n a t h = subst (λ (k : ℕ). _≡_ {A = Option ℕ × rules.Terms} (openRefusal a, terms.viewed t (admittedUnless s (admitting (take k codes)))) (openingTerms s (admitting (take k codes)))) (sub-zero n) h
 
 returns : tie.Need-returns
 returns c opened state terms book g =

@@ -19,12 +19,11 @@ use Rattle.book.specs.Viewed.{bookOf}
 use Rattle.book.proofs.Empty.{upTo64-small}
 use Rattle.book.proofs.Order.{codes-viewed, bids-lent}
 use Rattle.log.specs.Lines.{refusedLine}
-use Rattle.tender.specs.declared.Tender.{Tender}
-use Rattle.tender.specs.declared.State.the-variants as state
-use Rattle.tender.specs.Viewed as tender
-use Rattle.tender.specs.Viewed.{refusalNumber, tenderOf}
+use Rattle.refusals.specs.declared.State.the-variants as state
+use Rattle.refusals.specs.Conditions.{refusalNumber}
+use Rattle.outcomes.specs.Outcomes.{viewedOf}
 use Rattle.tender.proofs.Allotting.{lent-length, lent-again}
-use Rattle.tender.proofs.Conditions.{kept-old, none-of}
+use Rattle.refusals.proofs.Conditions.{kept-old, none-of}
 use Rattle.steps.specs.declared.Change.the-variants as change
 use Rattle.steps.proofs.Awarding.{lines-refused, lines-awarded, awards-told}
 use borrow.Author.Needs.{needs}
@@ -133,14 +132,14 @@ returns c held has =
     let u = k .before .before .before .before in
     let start = u .before .before .before .before .before in
     let b = bookWith start held has in
-    let t : Tender = tenderOf (start .args .state) (start .args .terms) b in
+    let t = viewedOf (start .args .state) (start .args .terms) b in
     let l = refusalNumber (k .allot-bids .result .refusal) in
     let h = sym (c .before .before .before .before .before .before .before .is-refused .ensures) ∙ c .before .before .before .before .before .before .if1 .taken in
     let w = c .before .before .before .put-refused in
     let q = c .with-change .ensures in
     let n = k .allot-bids .ensures b (bids-are u held has) .number in
     record {
-      lines = subst (Wrote _ 0 _ _) (sym (q .0)) (said (ap refusedLine (c .before .before .before .before .number-of .ensures) ∙ lines-refused (tender.viewed t) l n h) (w .ensures));
+      lines = subst (Wrote _ 0 _ _) (sym (q .0)) (said (ap refusedLine (c .before .before .before .before .number-of .ensures) ∙ lines-refused (t) l n h) (w .ensures));
       change-is = q .1 ∙ sym (kept-old l change.None (change.InState state.Announced) h) ∙ ap (λ (x : Option ℕ). unlessRefused x change.None (change.InState state.Announced)) n;
     }
 
@@ -205,7 +204,7 @@ returns-2 c held has =
     let u = k .before .before .before .before in
     let start = u .before .before .before .before .before in
     let b = bookWith start held has in
-    let t : Tender = tenderOf (start .args .state) (start .args .terms) b in
+    let t = viewedOf (start .args .state) (start .args .terms) b in
     let n = u .up-to-64 .result in
     let l = refusalNumber (k .allot-bids .result .refusal) in
     let h = sym (c .before .before .before .before .before .before .before .before .before .before .is-refused .ensures) ∙ c .before .before .before .before .before .before .before .before .before .if1 .left in
@@ -215,7 +214,7 @@ returns-2 c held has =
     let xs = lent-again (k .allot-bids .last .1 .1 .1 .1 .0) (drop (10 * n - 0) (replicate 640 0)) (10 * n) (awards-long k) in
     let codes = codes-viewed b (start .pre .0 .0) ∙ ap (λ (m : ℕ). take m (now (start .args .admitted))) (sym (u .up-to-64 .ensures) ∙ sym (sub-zero n)) in
     record {
-      lines = subst (Wrote _ 0 _ _) (sym (q .0)) (said (lines-awarded (tender.viewed t) l (e .number) h _ (xs ∙ awards-told e h)) (w .ensures b (take (10 * n - 0) (now (start .args .amounts))) codes (bids-are u held has)));
+      lines = subst (Wrote _ 0 _ _) (sym (q .0)) (said (lines-awarded (t) l (e .number) h _ (xs ∙ awards-told e h)) (w .ensures b (take (10 * n - 0) (now (start .args .amounts))) codes (bids-are u held has)));
       change-is = q .1 ∙ ap (λ (x : Option ℕ). unlessRefused x change.None (change.InState state.Announced)) (sym (none-of l h) ∙ e .number);
     }
 

@@ -6,8 +6,8 @@ use Rattle.output.specs.Output.{Wrote}
 use Rattle.output.proofs.Output.{said}
 use Rattle.envelope.specs.Refusals.{unlessRefused}
 use Rattle.log.specs.Lines.{refusedLine}
-use Rattle.tender.specs.Viewed.{refusalNumber}
-use Rattle.tender.proofs.Conditions.{kept-old, none-of}
+use Rattle.refusals.specs.Conditions.{refusalNumber}
+use Rattle.refusals.proofs.Conditions.{kept-old, none-of}
 use Rattle.steps.specs.declared.Change.the-variants as change
 use Rattle.steps.proofs.Taking.{unwritten, refusal-some, refusal-none}
 use borrow.Author.Needs.{needs}

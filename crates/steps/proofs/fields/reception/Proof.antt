@@ -10,8 +10,7 @@ use Rattle.output.proofs.Output.{said}
 use Rattle.book.specs.declared.Book.{Book}
 use Rattle.book.specs.Viewed.{bookOf}
 use Rattle.log.specs.Steps.{ending, onTender, received, receptionStep}
-use Rattle.tender.specs.declared.Tender.{Tender}
-use Rattle.tender.specs.Viewed.{tenderOf}
+use Rattle.outcomes.specs.Outcomes.{viewedOf}
 use Rattle.steps.specs.Parts.{Parts, parts, viewed}
 use Rattle.steps.proofs.Taking.{takes-as, takes-ended, takes-skipped, no-tender}
 use Rattle.steps.proofs.Receiving.{message-is, line-told, left-told, takes-unheld, takes-held}
@@ -90,7 +89,7 @@ returns-3 c codes n b l g =
     let time = c .before .before .before .before .before .before .before .before .before .before .time-of in
     let a = c .before .before .before .before .before .before .before .before .before .before .before .before .before .before .before .before .before .before .before .before .args in
     let s = now (a .s) in
-    let t : Tender = tenderOf (a .state) (a .terms) b in
+    let t = viewedOf (a .state) (a .terms) b in
     let p = parts (a .opened) codes n (a .state) (a .terms) b in
     let e = oc .ensures b l in
     let line = line-told t s _ (date .result) (time .result) (oc .result) e (message-is s) (date .ensures) (time .ensures) in
@@ -113,7 +112,7 @@ returns-4 c codes n b l g =
     let time = c .before .before .before .before .before .before .before .before .before .time-of in
     let a = c .before .before .before .before .before .before .before .before .before .before .before .before .before .before .before .before .before .before .before .args in
     let s = now (a .s) in
-    let t : Tender = tenderOf (a .state) (a .terms) b in
+    let t = viewedOf (a .state) (a .terms) b in
     let p = parts (a .opened) codes n (a .state) (a .terms) b in
     let e = oc .ensures b l in
     let line = line-told t s _ (date .result) (time .result) (oc .result) e (message-is s) (date .ensures) (time .ensures) in

@@ -12,8 +12,8 @@ use Rattle.envelope.specs.Application.{layout6G1}
 use Rattle.errors.specs.Listed.{listed}
 use Rattle.log.specs.Lines.{refusedLine}
 use Rattle.reception.proofs.Listing.{listed-none, listed-some}
-use Rattle.tender.specs.Viewed.{refusalNumber, isSome}
-use Rattle.tender.proofs.Conditions.{none-of}
+use Rattle.refusals.specs.Conditions.{refusalNumber, isSome}
+use Rattle.refusals.proofs.Conditions.{none-of}
 use Rattle.steps.proofs.Answered.{line-refused, line-confirmed, line-returned}
 use Rattle.steps.proofs.internal.put_answer.Statement.{statement}
 use Rattle.steps.proofs.internal.put_answer.Tie as tie

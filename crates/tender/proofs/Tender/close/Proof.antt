@@ -21,7 +21,7 @@ returns : tie.Need-returns
 unfolding close
 returns c =
     let a = c .before .before .before .args in
-    subst (λ (l : Option ℕ). Changes (a .self) (l, unlessRefused l (viewed (a .self)) (rules.inState rules.Closed (viewed (a .self)))) (c .in-state-unless .result)) (c .before .close-refusal .ensures (a .self .book)) (c .in-state-unless .ensures .1)
+    subst (λ (l : Option ℕ). Changes (a .self) (l, unlessRefused l (viewed (a .self)) (rules.inState rules.Closed (viewed (a .self)))) (c .in-state-unless .result)) (c .before .close-refusal .ensures (viewed (a .self) .terms .admission) (viewed (a .self) .book)) (c .in-state-unless .ensures .1)
 
 pub close-spec : {M : Type 1} → statement M
 close-spec = tie.close (tie.spec close-refusal-requires in-state-unless-requires returns)

@@ -18,13 +18,14 @@ use Rattle.rules.specs.Receiving.{Entry}
 use Rattle.rules.specs.Calls.{answerUnless, receive}
 use Rattle.errors.specs.Listed.{listed}
 use Rattle.checks.specs.Columns.{receptionOf}
-use Rattle.tender.specs.declared.Refusal.the-variants as refusal
+use Rattle.refusals.specs.declared.Refusal.the-variants as refusal
+use Rattle.refusals.specs.Conditions.{refusalNumber, isSome}
+use Rattle.refusals.proofs.Conditions.{none-of}
+use Rattle.outcomes.specs.declared.internal.Outcome.{Outcome}
+use Rattle.outcomes.specs.Outcomes.{isHeld, ComesTo}
 use Rattle.tender.specs.declared.Received.{Received}
-use Rattle.tender.specs.declared.internal.Outcome.{Outcome}
-use Rattle.tender.specs.Viewed.{viewed, refusalNumber, isSome, tenderOf, isHeld}
+use Rattle.tender.specs.Viewed.{viewed, tenderOf}
 use Rattle.tender.specs.Calls.{Receives}
-use Rattle.tender.specs.Parts.{ComesTo}
-use Rattle.tender.proofs.Conditions.{none-of}
 use Rattle.tender.proofs.Answering.{receives-refused, receives-answered}
 use Rattle.tender.proofs.Tender.receive.Statement.{statement}
 use Rattle.tender.proofs.Tender.receive.Tie as tie
@@ -49,7 +50,7 @@ outcome-of-requires c κs =
     (f, ap rising (sym (codes-viewed (start .args .self .book) (f .codes-length))) ∙ start .pre .rises)
 
 -- what the reception comes to in this tender, whose book lends its columns
-comes : (c : tie.After-outcome-of) → (let a = c .before .before .before .before .before .before .before .before .before .before .before .args in ComesTo (a .self) (now (a .m)) (a .date) (a .time) (length (now (a .space))) (c .outcome-of .result))
+comes : (c : tie.After-outcome-of) → (let a = c .before .before .before .before .before .before .before .before .before .before .before .args in ComesTo (viewed (a .self)) (now (a .m)) (a .date) (a .time) (length (now (a .space))) (c .outcome-of .result))
 comes c = c .outcome-of .ensures (c .before .before .before .before .before .before .before .before .before .before .before .args .self .book) (record { n-is = refl; codes-are = refl; held-are = refl; has-are = refl })
 
 is-refused-requires : tie.Need-is-refused-requires

@@ -21,7 +21,7 @@ returns : tie.Need-returns
 unfolding revoke
 returns c =
     let a = c .before .before .args in
-    subst (λ (l : Option ℕ). Changes (a .self) (l, unlessRefused l (viewed (a .self)) (rules.inState rules.Revoked (viewed (a .self)))) (c .in-state-unless .result)) (c .before .revoke-refusal .ensures (a .self .terms) (a .self .book)) (c .in-state-unless .ensures .1)
+    subst (λ (l : Option ℕ). Changes (a .self) (l, unlessRefused l (viewed (a .self)) (rules.inState rules.Revoked (viewed (a .self)))) (c .in-state-unless .result)) (c .before .revoke-refusal .ensures (viewed (a .self) .terms) (viewed (a .self) .book)) (c .in-state-unless .ensures .1)
 
 pub revoke-spec : {M : Type 1} → statement M
 revoke-spec = tie.close (tie.spec revoke-refusal-requires in-state-unless-requires returns)

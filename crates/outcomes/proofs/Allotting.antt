@@ -1,0 +1,69 @@
+-- What allotting comes to: refused whatever the bids, refused by condition 16, or awarded. Assumes nothing.
+use mathlib.Core.Path.{_≡_, refl, sym, ap, _∙_}
+use mathlib.Core.Bool.{Bool, true, false, cond}
+use mathlib.Core.List.{List, [], _∷_}
+use mathlib.Core.Option.{Option, none, some}
+use Prim.Native.Nat.{ℕ}
+use lib.Dec.{ltb}
+use Rattle.envelope.specs.Refusals.{firstHolding, unlessRefused}
+use Rattle.rules.specs.Allotment.{Bid, total}
+use Rattle.rules.specs.Opening.{offerOf}
+use Rattle.rules.specs.Calls.{Tender, isRevoked, isOpen, isAnnounced, bidsExceed, allottingRefused, bidsInBook, awardsGiven, marginalGiven}
+use Rattle.offer.specs.Viewed.{mostBids}
+use Rattle.marginal.specs.Ranks.{rateIn}
+use Rattle.allotment.specs.Allotted.{allottedTo}
+use Rattle.allotment.proofs.Given.{allotted-given}
+use Rattle.refusals.specs.Conditions.{refusalNumber, isSome, notClosed}
+use Rattle.refusals.proofs.Conditions.{refused-first, refused-later, kept-old}
+use Rattle.outcomes.specs.declared.internal.AllotAnswer.{AllotAnswer}
+use Rattle.outcomes.specs.Allotting.{awardedTo, AllotsBids}
+
+module _ (t : Tender) (space : List ℕ) (r : AllotAnswer) where
+  abbrev conditions : List (ℕ × Bool)
+  conditions = (8, isRevoked (t .state)) ∷ (14, isOpen (t .state)) ∷ (15, isAnnounced (t .state)) ∷ []
+
+  -- refused whatever the bids
+  pub allots-not : refusalNumber (r .refusal) ≡ notClosed (t .state) → isSome (refusalNumber (r .refusal)) ≡ true → rateIn (r .marginal) ≡ none → AllotsBids t space r space
+  unfolding allottingRefused
+  allots-not e h m =
+      record {
+        number = sym (refused-first conditions ((16, bidsExceed t) ∷ []) (refusalNumber (r .refusal)) e h);
+        awarded = (λ i. (m i, space)) ∙ sym (kept-old (refusalNumber (r .refusal)) (none, space) (awardedTo t) h);
+      }
+
+  -- refused by condition 16, or not
+  pub allots-bids : (first : Option ℕ) (bs : List Bid) (exceeds : Bool) (after : List ℕ) → bs ≡ bidsInBook (t .book) → first ≡ notClosed (t .state) → isSome first ≡ false
+      → refusalNumber (r .refusal) ≡ firstHolding ((16, exceeds) ∷ []) → _≡_ {A = Bool × Option ℕ × List ℕ} (exceeds, rateIn (r .marginal), after) (allottedTo (offerOf (t .terms)) bs space) → AllotsBids t space r after
+  unfolding allottingRefused firstHolding bidsExceed
+  allots-bids first bs exceeds after all e h n a = go (ltb mostBids (total bs)) refl
+    where
+      given : (b : Bool) → ltb mostBids (total bs) ≡ b
+          → _≡_ {A = Bool × Option ℕ × List ℕ} (exceeds, rateIn (r .marginal), after) (cond b (true, none, space) (false, marginalGiven (t .terms) bs, awardsGiven (t .terms) bs))
+      given b q = a ∙ allotted-given (t .terms) bs space ∙ ap (λ (y : Bool). cond {A = Bool × Option ℕ × List ℕ} y (true, none, space) (false, marginalGiven (t .terms) bs, awardsGiven (t .terms) bs)) q
+
+      asked : (b : Bool) → ltb mostBids (total bs) ≡ b → allottingRefused t ≡ cond b (some 16) none
+      asked b q =
+          refused-later conditions ((16, bidsExceed t) ∷ []) first e h
+          ∙ ap (λ (y : Bool). cond {A = Option ℕ} y (some 16) none) (ap (λ (l : List Bid). ltb mostBids (total l)) (sym all) ∙ q)
+
+      told : (b : Bool) → exceeds ≡ b → refusalNumber (r .refusal) ≡ cond b (some 16) none
+      told b p = n ∙ ap (λ (y : Bool). cond {A = Option ℕ} y (some 16) none) p
+
+      go : (b : Bool) → ltb mostBids (total bs) ≡ b → AllotsBids t space r after
+      go true q =
+          let g = given true q in
+          let number = told true (ap (λ (y : Bool × Option ℕ × List ℕ). y .0) g) in
+          record {
+            number = number ∙ sym (asked true q);
+            awarded = ap (λ (y : Bool × Option ℕ × List ℕ). (y .1, y .2)) g ∙ sym (ap (λ (l : Option ℕ). unlessRefused l (none, space) (awardedTo t)) number);
+          }
+      go false q =
+          let g = given false q in
+          let number = told false (ap (λ (y : Bool × Option ℕ × List ℕ). y .0) g) in
+          record {
+            number = number ∙ sym (asked false q);
+            awarded =
+                ap (λ (y : Bool × Option ℕ × List ℕ). (y .1, y .2)) g
+                ∙ ap (λ (l : List Bid). (marginalGiven (t .terms) l, awardsGiven (t .terms) l)) all
+                ∙ sym (ap (λ (l : Option ℕ). unlessRefused l (none, space) (awardedTo t)) number);
+          }

@@ -1,0 +1,65 @@
+-- What a reception comes to on a tender that comes in its parts. Assumes nothing.
+use mathlib.Core.Path.{_≡_}
+use mathlib.Core.Bool.{Bool, true, cond, not, _&&_}
+use mathlib.Core.List.{List}
+use mathlib.Core.Option.{none}
+use Prim.Native.Nat.{ℕ, _≤_, _<_}
+use lib.Dec.{eqb}
+use lib.ListN.{length}
+use Rattle.layout.specs.Fields.{readable}
+use Rattle.envelope.specs.Application.{layout6G1}
+use Rattle.rules.specs.Receiving.{Reception, Error, Entry}
+use Rattle.rules.specs.Calls as rules
+use Rattle.bids.specs.Columns.{bidsFrom}
+use Rattle.book.specs.declared.Book.{Book}
+use Rattle.book.specs.Viewed as book
+use Rattle.book.specs.Viewed.{Lends}
+use Rattle.errors.specs.Listed.{listed}
+use Rattle.terms.specs.declared.Terms.{Terms}
+use Rattle.terms.specs.Viewed as terms
+use Rattle.checks.specs.Columns.{receptionOf}
+use Rattle.reception.specs.Submission.{submitted}
+use Rattle.refusals.specs.declared.State.{State}
+use Rattle.refusals.specs.Conditions.{stateOf, refusalNumber, isSome}
+use Rattle.outcomes.specs.declared.internal.Outcome.{Outcome}
+
+-- a tender of its parts, as document 01's
+abbrev pub viewedOf : State → Terms → Book → rules.Tender
+viewedOf s t b = record { terms = terms.viewed t (book.admissionOf b); state = stateOf s; book = book.viewed b }
+
+-- a reception that is neither refused nor returned is held
+abbrev pub isHeld : Outcome → Bool
+isHeld o = not (isSome (refusalNumber (o .refusal))) && eqb (o .errors .n) 0
+
+-- the book and the tender after a reception: at most the entry of its code changes
+abbrev pub entriesAfter : List Entry → Outcome → List Entry
+entriesAfter es o = cond (isHeld o) (book.replaced es (o .accepted .at) (o .accepted .time) (bidsFrom (o .accepted .rates) (o .accepted .amounts) 0 10)) es
+
+abbrev pub leftBy : rules.Tender → Outcome → rules.Tender
+leftBy t o = record { terms = t .terms; state = t .state; book = entriesAfter (t .book) o }
+
+-- the errors and the book that a reception leaves where no condition refuses it
+abbrev pub Left : rules.Tender → Reception → Outcome → Type 0
+Left t x o = _≡_ {A = List Error × List Entry} (listed (o .errors), entriesAfter (t .book) o) (submitted (t .terms) (t .book) x)
+
+-- the same for any book that lends these codes, times and flags, where no condition refuses the reception: at most sixteen errors, and a place in the book
+abbrev pub LeftInAny : Terms → ℕ → List ℕ → List ℕ → List Bool → List ℕ → ℕ → ℕ → Outcome → Type 0
+LeftInAny terms n codes held has m date time o =
+    (refusalNumber (o .refusal) ≡ none)
+    × (o .errors .n ≤ 16)
+    × (o .accepted .at < 64)
+    × ((b : Book) → Lends b n codes held has → (s : State) (space : List ℕ) → Left (viewedOf s terms b) (receptionOf m date time space) o)
+
+-- what the reception of a message comes to, in any space with so much room
+pub record ComesTo (t : rules.Tender) (m : List ℕ) (date time room : ℕ) (o : Outcome) : Type 0 where
+  pub number : (space : List ℕ) → length space ≡ room → refusalNumber (o .refusal) ≡ rules.receivingRefused t (receptionOf m date time space)
+  pub roomy : refusalNumber (o .refusal) ≡ none → 418 ≤ room
+  pub readable-told : refusalNumber (o .refusal) ≡ none → readable layout6G1 m ≡ true
+  pub left : refusalNumber (o .refusal) ≡ none → (space : List ℕ) → Left t (receptionOf m date time space) o
+  pub few : o .errors .n ≤ 16
+  pub within : o .accepted .at < 64
+
+-- the same for any book that lends these codes, times and flags
+abbrev pub ComesToInAny : State → Terms → ℕ → List ℕ → List ℕ → List Bool → List ℕ → ℕ → ℕ → ℕ → Outcome → Type 0
+ComesToInAny state terms n codes held has m date time room o =
+    (b : Book) → Lends b n codes held has → ComesTo (viewedOf state terms b) m date time room o

@@ -1,0 +1,206 @@
+// What a reception and an allotment come to on a tender that comes in its parts, so that whoever changes its book in place makes no copy.
+use allotment::internal::allot;
+use book::Book;
+use book::internal::hold;
+use envelope::application::Fields;
+use envelope::application::ReadAnswer;
+use envelope::application::read;
+use errors::Errors;
+use errors::none;
+use marginal::MarginalRate;
+use offer::Offer;
+use places::Amount;
+use places::Rate;
+use reception::internal::judge;
+use refusals::Refusal;
+use refusals::State;
+use refusals::bids_refusal;
+use refusals::is_refused;
+use refusals::not_closed;
+use refusals::not_open;
+use terms::Terms;
+ghost use mathlib.Core.Path.{_≡_};
+ghost use mathlib.Core.Bool.{true, false, _&&_};
+ghost use Prim.Native.Nat.{_≤_, _<_};
+ghost use lib.ListN.{length, take};
+ghost use Rattle.calendar.specs.Calendar.{validDate, validTime};
+ghost use Rattle.layout.specs.Fields.{readable};
+ghost use Rattle.envelope.specs.Application.{layout6G1, fieldsOf};
+ghost use Rattle.rules.specs.Opening.{rising};
+ghost use Rattle.book.specs.Viewed.{viewed, upTo64, Full};
+ghost use Rattle.outcomes.specs.Outcomes.{isHeld, entriesAfter, LeftInAny, ComesToInAny};
+ghost use Rattle.outcomes.specs.Allotting.{AllotsAny};
+
+// What is accepted of a message: where its code stands, its reference time and its ten places.
+pub struct Accepted {
+    pub at: usize,
+    pub time: u64,
+    pub rates: [Rate; 10],
+    pub amounts: [Amount; 10],
+}
+
+// What a reception comes to: why it is refused, else its errors, else what is accepted.
+pub struct Outcome {
+    pub refusal: Refusal,
+    pub errors: Errors,
+    pub accepted: Accepted,
+}
+
+// Whether a reception leaves something to hold.
+pub fn is_held(o: Outcome) -> bool
+    ensures { λ r. ⌜ r ≡ isHeld o ⌝ }
+{
+    let refusal = o.refusal;
+    let errors = o.errors;
+    !is_refused(refusal) & (errors.n == 0)
+}
+
+// Nothing accepted of a message.
+pub fn nothing_accepted() -> Accepted
+    ensures { λ r. ⌜ r .at ≡ 0 ⌝ }
+{
+    Accepted {
+        at: 0,
+        time: 0,
+        rates: [Rate(0); 10],
+        amounts: [Amount(0); 10],
+    }
+}
+
+// A refused reception: nothing to tell and nothing to hold.
+fn refused_with(refusal: Refusal) -> Outcome
+    ensures { λ r. ⌜ (r .refusal ≡ refusal) × (r .errors .n ≡ 0) × (r .accepted .at ≡ 0) ⌝ }
+{
+    Outcome {
+        refusal,
+        errors: none(),
+        accepted: nothing_accepted(),
+    }
+}
+
+// What the reception of a readable message with the fields f comes to.
+fn judged<'a>(
+    terms: Terms,
+    n: usize,
+    codes: &'a [u32],
+    held: &'a [u64],
+    has: &'a [bool],
+    m: &[u8],
+    f: Fields,
+    date: u64,
+    time: u64,
+) -> Outcome
+    requires { ⌜ Full (now codes) (now held) (now has) ⌝ }
+    requires { ⌜ rising (take (upTo64 n) (now codes)) ≡ true ⌝ }
+    requires { ⌜ readable layout6G1 (now m) ≡ true ⌝ }
+    requires { ⌜ f ≡ fieldsOf (now m) ⌝ }
+    requires { ⌜ (validDate date && validTime time) ≡ true ⌝ }
+    ensures { λ r. ⌜ LeftInAny terms n (now (codes .entry)) (now (held .entry)) (now (has .entry)) (now (m .entry)) date time r ⌝ }
+{
+    let j = judge(m, f, terms, n, codes, held, has, date, time);
+    let errors = j.errors;
+    let places = f.places;
+    let rates = places.rates;
+    let amounts = places.amounts;
+    let accepted = Accepted {
+        at: j.at,
+        time: j.time,
+        rates,
+        amounts,
+    };
+    Outcome {
+        refusal: Refusal::None,
+        errors,
+        accepted,
+    }
+}
+
+// What the reception of a message comes to, with so much room for the reply, where a book has these codes, times and flags. They are lent, since
+// an index into a book by value copies the book.
+pub fn outcome_of<'a>(
+    state: State,
+    terms: Terms,
+    n: usize,
+    codes: &'a [u32],
+    held: &'a [u64],
+    has: &'a [bool],
+    m: &[u8],
+    date: u64,
+    time: u64,
+    room: usize,
+) -> Outcome
+    requires { ⌜ Full (now codes) (now held) (now has) ⌝ }
+    requires { ⌜ rising (take (upTo64 n) (now codes)) ≡ true ⌝ }
+    ensures { λ r. ⌜ ComesToInAny state terms n (now (codes .entry)) (now (held .entry)) (now (has .entry)) (now (m .entry)) date time room r ⌝ }
+{
+    let first = not_open(state, date, time);
+    if is_refused(first) {
+        return refused_with(first);
+    }
+    if room < 418 {
+        return refused_with(Refusal::SpaceShort);
+    }
+    let reading = read(m);
+    let found = reading.answer;
+    match found {
+        ReadAnswer::Unreadable => refused_with(Refusal::Unreadable),
+        ReadAnswer::Readable => {
+            let fields = reading.fields;
+            judged(terms, n, codes, held, has, m, fields, date, time)
+        }
+    }
+}
+
+// Why allotting is refused, or that it is not, and the marginal rate.
+pub struct AllotAnswer {
+    pub refusal: Refusal,
+    pub marginal: MarginalRate,
+}
+
+// Allots to the bids of a book, given in book order, and writes their awards; refused, it writes nothing.
+pub fn allot_bids(
+    state: State,
+    terms: Terms,
+    rates: &[u32],
+    amounts: &[u64],
+    awards: &mut [u64],
+) -> AllotAnswer
+    requires { ⌜ (length (now rates) ≡ length (now amounts)) × (length (now awards) ≡ length (now amounts)) × (length (now amounts) ≤ 640) ⌝ }
+    ensures { λ r. ⌜ AllotsAny state terms (now (rates .entry)) (now (amounts .entry)) (now (awards .entry)) r (now (awards .exit)) ⌝ }
+{
+    let first = not_closed(state);
+    if is_refused(first) {
+        return AllotAnswer {
+            refusal: first,
+            marginal: MarginalRate::None,
+        };
+    }
+    let side = terms.side;
+    let limit = terms.limit;
+    let offered = terms.offered;
+    let o = Offer {
+        side,
+        limit,
+        offered,
+    };
+    let allotment = allot(o, rates, amounts, awards);
+    let marginal = allotment.marginal;
+    AllotAnswer {
+        refusal: bids_refusal(allotment.exceeds),
+        marginal,
+    }
+}
+
+// The book after a reception.
+pub fn held_in(b: Book, o: Outcome) -> Book
+    requires { ⌜ o .accepted .at < 64 ⌝ }
+    ensures { λ r. ⌜ (viewed r ≡ entriesAfter (viewed b) o) × (isHeld o ≡ false → r ≡ b) ⌝ }
+{
+    if is_held(o) {
+        let a = o.accepted;
+        let rates = a.rates;
+        let amounts = a.amounts;
+        return hold(b, a.at, a.time, rates, amounts);
+    }
+    b
+}

@@ -1,0 +1,2 @@
+// What a reception and an allotment come to.
+pub mod internal;

@@ -1,0 +1,13 @@
+-- The codes of an A0 (document 01, 'The Friday log'). Assumes nothing.
+use mathlib.Core.List.{List, [], _∷_}
+use Prim.Native.Nat.{ℕ, zero, suc}
+use lib.ListN.{take, drop}
+use Rattle.digits.specs.Decimal.{digitsOf, numberIn}
+
+-- n codes of five digits each
+abbrev pub codeIn : List ℕ → ℕ
+codeIn s = numberIn (digitsOf s)
+
+unfoldable pub codesFrom : ℕ → List ℕ → List ℕ
+codesFrom zero s = []
+codesFrom (suc n) s = codeIn (take 5 s) ∷ codesFrom n (drop 5 s)

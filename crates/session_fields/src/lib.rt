@@ -1,0 +1,2 @@
+// The clock and the codes of the fields of a session.
+pub mod internal;
