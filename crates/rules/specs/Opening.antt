@@ -26,6 +26,7 @@ use Rattle.rules.specs.Allotment.{Offer}
 pub record Admission : Type 0 where
   pub codes : List ℕ
 
+-- the admitted list of these codes
 abbrev pub admitting : List ℕ → Admission
 admitting codes = record { codes = codes }
 
