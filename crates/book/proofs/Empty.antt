@@ -59,7 +59,7 @@ module _ (codes : List ℕ) (n : ℕ) where
   new-entries i (suc d) h = rw (drop-cons codes i 0 (omega arith)) (λ t. new-entry i t ∷ new-entries (suc i) d (omega arith) t)
 
 -- a number at most 64 stays
-upTo64-stays : (n : ℕ) → n ≤ 64 → upTo64 n ≡ n
+pub upTo64-stays : (n : ℕ) → n ≤ 64 → upTo64 n ≡ n
 unfolding upTo64
 upTo64-stays n h = go (ltb n 64) refl
   where

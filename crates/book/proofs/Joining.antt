@@ -15,24 +15,14 @@ use Rattle.rules.specs.Receiving.{Submission, Entry, newEntry, newBook, isAfter
 use Rattle.book.specs.declared.Book.{Book}
 use Rattle.book.specs.declared.Found.{Found}
 use Rattle.book.specs.declared.Found.the-variants.{At, Absent}
-use Rattle.book.specs.Viewed.{heldAt, entryAt, entriesFrom, upTo64, viewed, findFrom, replaced, codesIn, heldIn, accepted}
+use Rattle.book.specs.Viewed.{heldAt, entryAt, entriesFrom, upTo64, viewed, findFrom, isAt, indexOf, replaced, codesIn, heldIn, accepted}
 use Rattle.book.proofs.Empty.{upTo64-small}
 
 -- what a search can answer
-indexOf : Found → ℕ
-indexOf Absent = 0
-indexOf (At i) = i
-
-isAt : Found → Bool
-isAt Absent = false
-isAt (At i) = true
-
 at-same : (i k : ℕ) → At i ≡ At k → i ≡ k
-unfolding indexOf
 at-same i k e = ap indexOf e
 
 at-absent : (i : ℕ) → Absent ≡ At i → ⊥
-unfolding isAt
 at-absent i e = false≢true (ap isAt e)
 
 -- the index found is one of the entries
@@ -151,6 +141,10 @@ found-below b c i f =
     let l = length-entries b 0 (upTo64 (b .n)) in
     let s = upTo64-small (b .n) .0 in
     (omega arith, omega arith)
+
+pub index-below : (b : Book) (c : ℕ) (found : Found) → found ≡ findFrom (viewed b) c 0 → indexOf found < 64
+index-below b c (At i) e = found-below b c i (sym e) .1
+index-below b c Absent e = omega arith
 
 module _ (b : Book) (s : Submission) (i : ℕ) (r : rising (codesIn (viewed b)) ≡ true) (sound : s .sound ≡ true) (f : findFrom (viewed b) (s .code) 0 ≡ At i) where
   held-viewed : heldIn (viewed b) i ≡ heldAt b i

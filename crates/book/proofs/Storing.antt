@@ -21,7 +21,7 @@ use Rattle.book.specs.Viewed.{hundredThousandths, rateOf, amountOf, book
 use Rattle.book.proofs.Mapped.{mapped-at}
 
 module _ {A : Type 0} where
-  getD-sets-low : (l : List A) (i : ℕ) (vs : List A) (p : ℕ) (d : A) → p < i → getD (sets l i vs) p d ≡ getD l p d
+  pub getD-sets-low : (l : List A) (i : ℕ) (vs : List A) (p : ℕ) (d : A) → p < i → getD (sets l i vs) p d ≡ getD l p d
   getD-sets-low l i [] p d h = refl
   getD-sets-low l i (v ∷ vs) p d h = getD-sets-low (set l i v) (suc i) vs p d (omega arith) ∙ getD-set-other l i p v d (omega arith)
 
@@ -98,12 +98,12 @@ module _ {A : Type 0} (number : A → ℕ) where
   numbers-stored l k vs cur i h e = e ∙ ap (sets l k) (take-all i (map number vs) (omega (arith, h, length-map vs number)))
 
   module _ (back : ℕ → A) (same : (v : A) → back (number v) ≡ v) where
-    back-set : (l : List ℕ) (i n : ℕ) → map back (set l i n) ≡ set (map back l) i (back n)
+    pub back-set : (l : List ℕ) (i n : ℕ) → map back (set l i n) ≡ set (map back l) i (back n)
     back-set [] i n = refl
     back-set (x ∷ l) zero n = refl
     back-set (x ∷ l) (suc i) n = ap (λ (y : List A). back x ∷ y) (back-set l i n)
 
-    stored-back : (l : List ℕ) (k : ℕ) (vs : List A) → map back (sets l k (map number vs)) ≡ sets (map back l) k vs
+    pub stored-back : (l : List ℕ) (k : ℕ) (vs : List A) → map back (sets l k (map number vs)) ≡ sets (map back l) k vs
     stored-back l k [] = refl
     stored-back l k (v ∷ vs) =
         stored-back (set l k (number v)) (suc k) vs

@@ -11,7 +11,7 @@ use Rattle.rules.specs.Opening.{Admission, admitting, any}
 use Rattle.places.specs.declared.Rate.{Rate}
 use Rattle.places.specs.declared.Amount.{Amount}
 use Rattle.bids.specs.Columns.{bidsFrom, cents}
-use Rattle.rules.specs.Receiving.{Submission, Entry, takes, hold}
+use Rattle.rules.specs.Receiving.{Submission, Entry, isAfter, takes, hold}
 use Rattle.book.specs.declared.Book.{Book}
 use Rattle.book.specs.declared.Columns.{Columns}
 use Rattle.book.specs.declared.Found.{Found}
@@ -74,6 +74,20 @@ viewed b = entriesFrom b 0 (upTo64 (b .n))
 unfoldable pub findFrom : List Entry → ℕ → ℕ → Found
 findFrom [] c i = Absent
 findFrom (e ∷ es) c i = cond (eqb (e .code) c) (At i) (findFrom es c (suc i))
+
+-- whether the search found an entry, and its index
+abbrev pub isAt : Found → Bool
+isAt (At i) = true
+isAt Absent = false
+
+abbrev pub indexOf : Found → ℕ
+indexOf (At i) = i
+indexOf Absent = 0
+
+-- whether the entry found takes a message of this time; where none is found, none does
+abbrev pub takenAt : Book → Found → ℕ → Bool
+takenAt b (At i) time = isAfter time (heldAt b i)
+takenAt b Absent time = false
 
 -- the entry at an index holds a time and bids; past the last entry there is none
 unfoldable pub replaced : List Entry → ℕ → ℕ → List Bid → List Entry

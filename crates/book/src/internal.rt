@@ -9,10 +9,9 @@ ghost use mathlib.Core.List.{map};
 ghost use Prim.Native.Nat.{_*_, _<_};
 ghost use lib.ListN.{length};
 ghost use lib.Seq.{sets};
-ghost use Rattle.rules.specs.Receiving.{isAfter};
 ghost use Rattle.bids.specs.Columns.{bidsFrom, cents};
 ghost use Rattle.book.specs.declared.Book.{Book};
-ghost use Rattle.book.specs.Viewed.{hundredThousandths, viewed, findFrom, heldAt, replaced};
+ghost use Rattle.book.specs.Viewed.{hundredThousandths, viewed, findFrom, indexOf, takenAt, replaced};
 
 // A code as a number of 64 bits.
 fn wide(c: u32) -> u64
@@ -38,12 +37,15 @@ pub fn find_in(codes: &[u32], n: usize, code: u64) -> Found
     Found::Absent
 }
 
-// Whether nothing is held at an index, or a time before this one, by a book with these times and flags.
-pub fn takes_at<'a>(held: &'a [u64], has: &'a [bool], at: usize, time: u64) -> bool
-    requires { ⌜ (length (now held) ≡ 64) × (length (now has) ≡ 64) × (at < 64) ⌝ }
-    ensures { λ r. ⌜ ((b : Book) → b .held ≡ now (held .entry) → b .has ≡ now (has .entry) → r ≡ isAfter time (heldAt b at)) ⌝ }
+// Whether the entry found holds nothing, or a time before this one, in a book with these times and flags.
+pub fn takes_at<'a>(held: &'a [u64], has: &'a [bool], found: Found, time: u64) -> bool
+    requires { ⌜ (length (now held) ≡ 64) × (length (now has) ≡ 64) × (indexOf found < 64) ⌝ }
+    ensures { λ r. ⌜ ((b : Book) → b .held ≡ now (held .entry) → b .has ≡ now (has .entry) → r ≡ takenAt b found time) ⌝ }
 {
-    !has[at] | (held[at] < time)
+    match found {
+        Found::At(at) => !has[at] | (held[at] < time),
+        Found::Absent => false,
+    }
 }
 
 // The book that holds this time and these ten places at an index.

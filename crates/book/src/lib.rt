@@ -9,7 +9,7 @@ ghost use mathlib.Core.List.{map};
 ghost use lib.ListN.{take};
 ghost use Rattle.rules.specs.Receiving.{newBook};
 ghost use Rattle.bids.specs.Columns.{cents};
-ghost use Rattle.book.specs.Viewed.{hundredThousandths, rateOf, amountOf, upTo64, viewed, findFrom, columnsOf, bookIn};
+ghost use Rattle.book.specs.Viewed.{hundredThousandths, rateOf, amountOf, upTo64, viewed, findFrom, isAt, indexOf, columnsOf, bookIn};
 
 // For each code the time last accepted, whether there is one, and ten places from ten times its index on.
 pub struct Book {
@@ -35,6 +35,26 @@ pub struct Columns {
 pub enum Found {
     At(usize),
     Absent,
+}
+
+// Whether a code that was looked for was found.
+pub fn is_found(found: Found) -> bool
+    ensures { λ r. ⌜ r ≡ isAt found ⌝ }
+{
+    match found {
+        Found::At(at) => true,
+        Found::Absent => false,
+    }
+}
+
+// Where it was found, or 0.
+pub fn index_of(found: Found) -> usize
+    ensures { λ r. ⌜ r ≡ indexOf found ⌝ }
+{
+    match found {
+        Found::At(at) => at,
+        Found::Absent => 0,
+    }
 }
 
 // A number, or 64 where it is larger.

@@ -23,7 +23,7 @@ ghost use Rattle.output.specs.Output.{Wrote};
 ghost use Rattle.digits.specs.Decimal.{digits};
 ghost use Rattle.layout.specs.Fields.{field, readable};
 ghost use Rattle.places.specs.Bids.{placesText};
-ghost use Rattle.envelope.specs.Application.{layout6G1, fieldBytes, fieldsOf, readRefusal, reading, isIdentifier, numbersFit, textsFit, writeRefusal, write};
+ghost use Rattle.envelope.specs.Application.{layout6G1, fieldBytes, fieldsOf, noFields, readRefusal, reading, isIdentifier, numbersFit, textsFit, writeRefusal, write};
 ghost use Rattle.envelope.specs.Writing.{firstFields, lastFields};
 
 // The fields of a 6G1, in their order.
@@ -122,6 +122,25 @@ fn fields_of(m: &[u8]) -> Fields
     }
 }
 
+// What a refused reading gives.
+pub fn no_fields() -> Fields
+    ensures { λ r. ⌜ r ≡ noFields ⌝ }
+{
+    Fields {
+        sender: Digits::None,
+        recipient: Digits::None,
+        cro: Digits::None,
+        date: Digits::None,
+        time: Digits::None,
+        check: Digits::None,
+        places: Places {
+            formed: [false; 10],
+            rates: [Rate(0); 10],
+            amounts: [Amount(0); 10],
+        },
+    }
+}
+
 // Reads a 6G1, or refuses what is none and gives no numbers.
 pub fn read(m: &[u8]) -> Reading
     ensures { λ r. ⌜ (readRefusal (r .answer), r .fields) ≡ reading (now (m .entry)) ⌝ }
@@ -134,19 +153,7 @@ pub fn read(m: &[u8]) -> Reading
     } else {
         Reading {
             answer: ReadAnswer::Unreadable,
-            fields: Fields {
-                sender: Digits::None,
-                recipient: Digits::None,
-                cro: Digits::None,
-                date: Digits::None,
-                time: Digits::None,
-                check: Digits::None,
-                places: Places {
-                    formed: [false; 10],
-                    rates: [Rate(0); 10],
-                    amounts: [Amount(0); 10],
-                },
-            },
+            fields: no_fields(),
         }
     }
 }

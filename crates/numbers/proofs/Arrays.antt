@@ -38,8 +38,9 @@ pub length-numbers : (m : List ℕ) → length (numbersOf m) ≡ 45
 unfolding numbersOf fieldsNumbers digitNumbers placesNumbers placeNumbers textStarts
 length-numbers m = refl
 
--- an array of 45 holds the numbers that were written to it, and nothing else
+-- an array as long as what is written to it holds nothing else
+pub written-only : (s d : List ℕ) {after : List ℕ} {end : ℕ} → length d ≡ length s → Wrote d 0 s after end → after ≡ s
+written-only s d l w = w .bytes ∙ from-start d s ∙ rw (drop-of-length-le d {i = length s} (omega arith)) (append-nil s)
+
 pub numbers-only : (m d : List ℕ) {after : List ℕ} {end : ℕ} → length d ≡ 45 → Wrote d 0 (numbersOf m) after end → after ≡ numbersOf m
-numbers-only m d l w =
-    let n = length-numbers m in
-    w .bytes ∙ from-start d (numbersOf m) ∙ rw (drop-of-length-le d {i = length (numbersOf m)} (omega arith)) (append-nil (numbersOf m))
+numbers-only m d l w = written-only (numbersOf m) d (l ∙ sym (length-numbers m)) w

@@ -1,6 +1,7 @@
 -- A 6G1 as one list of numbers, for a host in C that asks for all of it by one call (document 01, 'Replies and writing'). Assumes nothing.
 use mathlib.Core.List.{List, [], _∷_, _++_}
 use Prim.Native.Nat.{ℕ, zero, suc}
+use lib.ListN.{length, take, drop}
 use Rattle.digits.specs.declared.Digits.{Digits}
 use Rattle.digits.specs.Decimal.{isNumber, numberIn}
 use Rattle.places.specs.declared.Place.{Place}
@@ -36,3 +37,7 @@ textStarts m = startOf 0 m ∷ startOf 7 m ∷ startOf 9 m ∷ []
 -- the 45 numbers of a message
 unfoldable pub numbersOf : List ℕ → List ℕ
 numbersOf m = fieldsNumbers m ++ placesNumbers 10 m ++ textStarts m
+
+-- as many numbers as an array has room for; its entries past them stay
+unfoldable pub inArray : List ℕ → List ℕ → List ℕ
+inArray all array = take (length array) all ++ drop (length all) array

@@ -9,16 +9,16 @@ use words::internal::long_number_at;
 use words::internal::number_at;
 ghost use mathlib.Core.Path.{_≡_};
 ghost use mathlib.Core.Bool.{true};
-ghost use mathlib.Core.List.{[], _∷_, _++_};
+ghost use mathlib.Core.List.{[], _∷_};
 ghost use Prim.Native.Nat.{_+_, _≤_, _<_};
-ghost use lib.ListN.{length, take, drop, set};
+ghost use lib.ListN.{length, set};
 ghost use Rattle.output.specs.Output.{Wrote};
 ghost use Rattle.layout.specs.Fields.{readable};
 ghost use Rattle.envelope.specs.Application.{layout6G1};
-ghost use Rattle.numbers.specs.Numbers.{digitNumbers, placeNumbers, fieldsNumbers, placesNumbers, textStarts, numbersOf};
+ghost use Rattle.numbers.specs.Numbers.{digitNumbers, placeNumbers, fieldsNumbers, placesNumbers, textStarts, numbersOf, inArray};
 
 // Writes one number.
-fn put(numbers: &mut [u64], at: usize, n: u64) -> usize
+pub fn put(numbers: &mut [u64], at: usize, n: u64) -> usize
     requires { ⌜ at < length (now numbers) ⌝ }
     ensures { λ r. ⌜ Wrote (now (numbers .entry)) at (n ∷ []) (now (numbers .exit)) r ⌝ }
 {
@@ -27,7 +27,7 @@ fn put(numbers: &mut [u64], at: usize, n: u64) -> usize
 }
 
 // Writes three numbers.
-fn put_three(numbers: &mut [u64], at: usize, a: u64, b: u64, c: u64) -> usize
+pub fn put_three(numbers: &mut [u64], at: usize, a: u64, b: u64, c: u64) -> usize
     requires { ⌜ at + 3 ≤ length (now numbers) ⌝ }
     ensures { λ r. ⌜ Wrote (now (numbers .entry)) at (a ∷ b ∷ c ∷ []) (now (numbers .exit)) r ⌝ }
 {
@@ -111,14 +111,13 @@ fn put_if_room(numbers: &mut [u64], at: usize, n: u64)
     numbers[at] = n;
 }
 
-// Stores as many of the 45 numbers as the array has room for. A loop that ends with the array would be
+// Stores as many numbers as the array has room for. A loop that ends with the array would be
 // compiled to a call of memcpy, and the archive for C needs nothing from elsewhere.
 pub fn put_first(numbers: &mut [u64], all: &[u64])
-    requires { ⌜ length (now all) ≡ 45 ⌝ }
-    ensures { λ _. ⌜ now (numbers .exit) ≡ take (length (now (numbers .entry))) (now (all .entry)) ++ drop 45 (now (numbers .entry)) ⌝ }
+    ensures { λ _. ⌜ now (numbers .exit) ≡ inArray (now (all .entry)) (now (numbers .entry)) ⌝ }
 {
     let mut k = 0;
-    while k < 45 {
+    while k < all.len() {
         put_if_room(numbers, k, all[k]);
         k += 1;
     }

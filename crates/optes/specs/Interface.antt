@@ -1,10 +1,10 @@
 -- What a host in C is answered (document 01, 'Replies and writing'). Assumes nothing.
 use mathlib.Core.Bool.{cond}
-use mathlib.Core.List.{List, map, _++_}
+use mathlib.Core.List.{List, map}
 use mathlib.Core.Option.{Option, none, some}
 use Prim.Native.Nat.{ℕ}
 use lib.Dec.{ltb}
-use lib.ListN.{length, take, drop}
+use lib.ListN.{length}
 use Rattle.layout.specs.Fields.{content}
 use Rattle.places.specs.declared.Rate.{Rate}
 use Rattle.places.specs.declared.Amount.{Amount}
@@ -12,7 +12,7 @@ use Rattle.envelope.specs.declared.application.Application.{Application}
 use Rattle.envelope.specs.Refusals.{unlessRefused}
 use Rattle.envelope.specs.Application.{readingRefused}
 use Rattle.numbers.specs.ByNumber.{hasField}
-use Rattle.numbers.specs.Numbers.{numbersOf}
+use Rattle.numbers.specs.Numbers.{numbersOf, inArray}
 
 -- the number of an answer: 0, or that of the refusal
 abbrev pub answerNumber : Option ℕ → ℕ
@@ -28,7 +28,7 @@ lengthOf k m = cond (hasField k m) (length (content k m)) 0
 
 -- 'reading a 6G1 [checks] 12': it gives as many of the numbers as the array has room for, and the entries past the 45 stay; a refused call leaves the array
 unfoldable pub numbersRead : List ℕ → List ℕ → Option ℕ × List ℕ
-numbersRead m array = (readingRefused m, unlessRefused (readingRefused m) array (take (length array) (numbersOf m) ++ drop 45 array))
+numbersRead m array = (readingRefused m, unlessRefused (readingRefused m) array (inArray (numbersOf m) array))
 
 -- the application of 26 numbers
 abbrev pub rateOf : ℕ → Rate

@@ -1,9 +1,15 @@
 // What a reception and an allotment come to on a tender that comes in its parts, so that whoever changes its book in place makes no copy.
 use allotment::internal::allot;
 use book::Book;
+use book::Found;
+use book::index_of;
+use book::internal::find_in;
 use book::internal::hold;
+use book::internal::takes_at;
+use digits::number_of;
 use envelope::application::Fields;
 use envelope::application::ReadAnswer;
+use envelope::application::no_fields;
 use envelope::application::read;
 use errors::Errors;
 use errors::none;
@@ -11,7 +17,7 @@ use marginal::MarginalRate;
 use offer::Offer;
 use places::Amount;
 use places::Rate;
-use reception::internal::judge;
+use reception::internal::returned_errors;
 use refusals::Refusal;
 use refusals::State;
 use refusals::bids_refusal;
@@ -25,10 +31,11 @@ ghost use Prim.Native.Nat.{_≤_, _<_};
 ghost use lib.ListN.{length, take};
 ghost use Rattle.calendar.specs.Calendar.{validDate, validTime};
 ghost use Rattle.layout.specs.Fields.{readable};
-ghost use Rattle.envelope.specs.Application.{layout6G1, fieldsOf};
+ghost use Rattle.envelope.specs.Application.{layout6G1, fieldsOf, readRefusal};
 ghost use Rattle.rules.specs.Opening.{rising};
 ghost use Rattle.book.specs.Viewed.{viewed, upTo64, Full};
-ghost use Rattle.outcomes.specs.Outcomes.{isHeld, entriesAfter, LeftInAny, ComesToInAny};
+ghost use Rattle.refusals.specs.Conditions.{stateOf, refusalNumber};
+ghost use Rattle.outcomes.specs.Outcomes.{notReceiving, Checks, isHeld, entriesAfter, LeavesInAny, ComesToInAny};
 ghost use Rattle.outcomes.specs.Allotting.{AllotsAny};
 
 // What is accepted of a message: where its code stands, its reference time and its ten places.
@@ -68,7 +75,7 @@ pub fn nothing_accepted() -> Accepted
 }
 
 // A refused reception: nothing to tell and nothing to hold.
-fn refused_with(refusal: Refusal) -> Outcome
+pub fn refused_with(refusal: Refusal) -> Outcome
     ensures { λ r. ⌜ (r .refusal ≡ refusal) × (r .errors .n ≡ 0) × (r .accepted .at ≡ 0) ⌝ }
 {
     Outcome {
@@ -78,33 +85,80 @@ fn refused_with(refusal: Refusal) -> Outcome
     }
 }
 
-// What the reception of a readable message with the fields f comes to.
-fn judged<'a>(
+// What receiving refuses of a message: why it does, or the fields of the message.
+pub struct Checked {
+    pub refusal: Refusal,
+    pub fields: Fields,
+}
+
+// The first of conditions 8 to 11 that holds, with so much room for the reply, or that none does.
+fn not_receiving(state: State, date: u64, time: u64, room: usize) -> Refusal
+    ensures { λ r. ⌜ refusalNumber r ≡ notReceiving (stateOf state) date time room ⌝ }
+{
+    let first = not_open(state, date, time);
+    if is_refused(first) {
+        return first;
+    }
+    if room < 418 {
+        return Refusal::SpaceShort;
+    }
+    Refusal::None
+}
+
+// The refusal of a message that was looked at, or none.
+fn read_refusal(a: ReadAnswer) -> Refusal
+    ensures { λ r. ⌜ refusalNumber r ≡ readRefusal a ⌝ }
+{
+    match a {
+        ReadAnswer::Readable => Refusal::None,
+        ReadAnswer::Unreadable => Refusal::Unreadable,
+    }
+}
+
+// Conditions 8 to 12, with so much room for the reply.
+pub fn receiving_checks(state: State, m: &[u8], date: u64, time: u64, room: usize) -> Checked
+    ensures { λ r. ⌜ Checks state (now (m .entry)) date time room r ⌝ }
+{
+    let first = not_receiving(state, date, time, room);
+    if is_refused(first) {
+        return Checked {
+            refusal: first,
+            fields: no_fields(),
+        };
+    }
+    let reading = read(m);
+    let answer = reading.answer;
+    let fields = reading.fields;
+    Checked {
+        refusal: read_refusal(answer),
+        fields,
+    }
+}
+
+// What the reception of a message with the fields f comes to that no condition refuses; found and taken say where its code stands in a book, and
+// whether the book takes its time.
+pub fn judged(
     terms: Terms,
-    n: usize,
-    codes: &'a [u32],
-    held: &'a [u64],
-    has: &'a [bool],
+    found: Found,
+    taken: bool,
     m: &[u8],
     f: Fields,
     date: u64,
     time: u64,
 ) -> Outcome
-    requires { ⌜ Full (now codes) (now held) (now has) ⌝ }
-    requires { ⌜ rising (take (upTo64 n) (now codes)) ≡ true ⌝ }
     requires { ⌜ readable layout6G1 (now m) ≡ true ⌝ }
     requires { ⌜ f ≡ fieldsOf (now m) ⌝ }
     requires { ⌜ (validDate date && validTime time) ≡ true ⌝ }
-    ensures { λ r. ⌜ LeftInAny terms n (now (codes .entry)) (now (held .entry)) (now (has .entry)) (now (m .entry)) date time r ⌝ }
+    ensures { λ r. ⌜ LeavesInAny terms found taken (now (m .entry)) f date time r ⌝ }
 {
-    let j = judge(m, f, terms, n, codes, held, has, date, time);
-    let errors = j.errors;
+    let errors = returned_errors(m, f, terms, found, taken, date, time);
+    let reference = f.time;
     let places = f.places;
     let rates = places.rates;
     let amounts = places.amounts;
     let accepted = Accepted {
-        at: j.at,
-        time: j.time,
+        at: index_of(found),
+        time: number_of(reference),
         rates,
         amounts,
     };
@@ -133,22 +187,18 @@ pub fn outcome_of<'a>(
     requires { ⌜ rising (take (upTo64 n) (now codes)) ≡ true ⌝ }
     ensures { λ r. ⌜ ComesToInAny state terms n (now (codes .entry)) (now (held .entry)) (now (has .entry)) (now (m .entry)) date time room r ⌝ }
 {
-    let first = not_open(state, date, time);
-    if is_refused(first) {
-        return refused_with(first);
+    let checked = receiving_checks(state, m, date, time, room);
+    let refusal = checked.refusal;
+    if is_refused(refusal) {
+        return refused_with(refusal);
     }
-    if room < 418 {
-        return refused_with(Refusal::SpaceShort);
-    }
-    let reading = read(m);
-    let found = reading.answer;
-    match found {
-        ReadAnswer::Unreadable => refused_with(Refusal::Unreadable),
-        ReadAnswer::Readable => {
-            let fields = reading.fields;
-            judged(terms, n, codes, held, has, m, fields, date, time)
-        }
-    }
+    let fields = checked.fields;
+    let sender = fields.sender;
+    let reference = fields.time;
+    let found = find_in(codes, n, number_of(sender));
+    let sent = number_of(reference);
+    let taken = takes_at(held, has, found, sent);
+    judged(terms, found, taken, m, fields, date, time)
 }
 
 // Why allotting is refused, or that it is not, and the marginal rate.

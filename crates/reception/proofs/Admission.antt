@@ -8,8 +8,7 @@ use borrow.Author.Tests.{eqb-true, eqb-false, eq-eqb, ne-eqb}
 use Rattle.rules.specs.Opening.{any}
 use Rattle.rules.specs.Receiving.{Entry}
 use Rattle.book.specs.declared.Found.the-variants.{At}
-use Rattle.book.specs.Viewed.{findFrom, codesIn}
-use Rattle.reception.specs.Submission.{isAt}
+use Rattle.book.specs.Viewed.{findFrom, isAt, codesIn}
 
 eqb-sym : (a b : ℕ) → eqb a b ≡ eqb b a
 eqb-sym a b = go (eqb b a) refl

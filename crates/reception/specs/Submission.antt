@@ -1,45 +1,43 @@
 -- What a message received leaves. Assumes nothing.
 use mathlib.Core.Path.{_≡_}
-use mathlib.Core.Bool.{Bool, true, false, cond}
+use mathlib.Core.Bool.{Bool, true, cond}
 use mathlib.Core.List.{List}
-use Prim.Native.Nat.{ℕ, _≤_, _<_}
+use Prim.Native.Nat.{ℕ, _≤_}
 use lib.Dec.{eqb}
-use Rattle.rules.specs.Allotment.{Bid}
-use Rattle.rules.specs.Opening.{Terms}
+use Rattle.digits.specs.Decimal.{numberIn}
+use Rattle.envelope.specs.declared.application.Fields.{Fields}
+use Rattle.rules.specs.Opening.{Terms, rising}
 use Rattle.rules.specs.Receiving.{Reception, Error, Entry, returnedErrors}
 use Rattle.rules.specs.Calls.{bookAfter}
 use Rattle.book.specs.declared.Found.{Found}
-use Rattle.book.specs.declared.Found.the-variants.{At, Absent}
 use Rattle.book.specs.declared.Book.{Book}
-use Rattle.book.specs.Viewed.{viewed, admissionOf, replaced, Lends}
+use Rattle.book.specs.Viewed.{viewed, findFrom, indexOf, takenAt, replaced, codesIn, admissionOf}
 use Rattle.bids.specs.Columns.{bidsFrom}
-use Rattle.places.specs.declared.Places.{Places}
+use Rattle.errors.specs.declared.Errors.{Errors}
 use Rattle.errors.specs.Listed.{listed}
 use Rattle.terms.specs.declared.Terms as declared
 use Rattle.terms.specs.Viewed as terms
 use Rattle.checks.specs.Columns.{receptionOf}
-use Rattle.reception.specs.declared.Judged.{Judged}
 
 -- the errors with which a message is returned, and the book after it
 abbrev pub submitted : Terms → List Entry → Reception → List Error × List Entry
 submitted t book r = (returnedErrors t book r, bookAfter (returnedErrors t book r) t book r)
 
+-- what is known of a code and a time in a book whose codes rise: where the code stands, and whether the book takes the time there
+pub record Stands (b : Book) (code time : ℕ) (found : Found) (taken : Bool) : Type 0 where
+  pub rises : rising (codesIn (viewed b)) ≡ true
+  pub found-is : found ≡ findFrom (viewed b) code 0
+  pub taken-is : taken ≡ takenAt b found time
+
 -- the book after a message: without errors it is held with its bids
-abbrev pub afterJudged : List Entry → Judged → List Bid → List Entry
-afterJudged book j bids = cond (eqb (j .errors .n) 0) (replaced book (j .at) (j .time) bids) book
+abbrev pub afterErrors : Book → Found → Fields → Errors → List Entry
+afterErrors b found f e =
+    cond (eqb (e .n) 0) (replaced (viewed b) (indexOf found) (numberIn (f .time)) (bidsFrom (f .places .rates) (f .places .amounts) 0 10)) (viewed b)
 
--- a code that was looked for stands in the book
-abbrev pub isAt : Found → Bool
-isAt (At i) = true
-isAt Absent = false
-
--- what a message with these places comes to, received on a day and at a second, for one book
-abbrev pub JudgedIn : Book → declared.Terms → List ℕ → Places → ℕ → ℕ → List ℕ → Judged → Type 0
-JudgedIn b t m p day second space j =
-    (listed (j .errors), afterJudged (viewed b) j (bidsFrom (p .rates) (p .amounts) 0 10))
-    ≡ submitted (terms.viewed t (admissionOf b)) (viewed b) (receptionOf m day second space)
-
--- the same for every book that lends these codes, times and flags, with at most sixteen errors and a place in the book
-abbrev pub Judges : declared.Terms → ℕ → List ℕ → List ℕ → List Bool → List ℕ → Places → ℕ → ℕ → Judged → Type 0
-Judges t n codes held has m p day second j =
-    ((b : Book) (space : List ℕ) → Lends b n codes held has → JudgedIn b t m p day second space j) × (j .errors .n ≤ 16) × (j .at < 64)
+-- the errors with which a message is returned, received on a day and at a second, for every book in which its code stands so; at most sixteen
+abbrev pub Returns : declared.Terms → Fields → Found → Bool → List ℕ → ℕ → ℕ → Errors → Type 0
+Returns t f found taken m day second e =
+    ((b : Book) (space : List ℕ)
+    → Stands b (numberIn (f .sender)) (numberIn (f .time)) found taken
+    → (listed e, afterErrors b found f e) ≡ submitted (terms.viewed t (admissionOf b)) (viewed b) (receptionOf m day second space))
+    × (e .n ≤ 16)

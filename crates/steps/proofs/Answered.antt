@@ -11,7 +11,7 @@ use Rattle.rules.specs.Calls.{confirmed, returned, refused, answerTo}
 use Rattle.log.specs.Lines.{confirmedLine, returnedLine, refusedLine}
 use Rattle.log.specs.Steps.{dateIn, timeIn, answerLine}
 use Rattle.refusals.specs.Conditions.{isSome}
-use Rattle.tender.specs.Viewed.{answerIn}
+use Rattle.outcomes.specs.Answers.{answerIn}
 
 pub line-refused : (l : Option ℕ) (es : List Error) (k : ℕ) (s : List ℕ) → isSome l ≡ true → refusedLine (orZero l) ≡ answerLine (answerIn l es k) s
 unfolding answerLine

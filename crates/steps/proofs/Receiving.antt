@@ -19,7 +19,7 @@ use Rattle.book.specs.Viewed as book
 use Rattle.outcomes.specs.declared.internal.Accepted.{Accepted}
 use Rattle.outcomes.specs.declared.internal.Outcome.{Outcome}
 use Rattle.refusals.specs.Conditions.{refusalNumber}
-use Rattle.tender.specs.Viewed.{answerIn}
+use Rattle.outcomes.specs.Answers.{answerIn}
 use Rattle.outcomes.specs.Outcomes.{isHeld, leftBy, Left, ComesTo}
 use Rattle.steps.specs.declared.Change.the-variants as change
 use Rattle.steps.specs.declared.Taken.{Taken}

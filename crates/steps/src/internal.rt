@@ -26,7 +26,7 @@ ghost use Rattle.envelope.specs.Application.{layout6G1};
 ghost use Rattle.book.specs.Viewed.{bookOf, Full};
 ghost use Rattle.errors.specs.Listed.{listed};
 ghost use Rattle.refusals.specs.Conditions.{refusalNumber};
-ghost use Rattle.tender.specs.Viewed.{answerIn};
+ghost use Rattle.outcomes.specs.Answers.{answerIn};
 ghost use Rattle.log.specs.Steps.{answerLine, step};
 ghost use Rattle.steps.specs.Parts.{parts, viewed, Given, Takes};
 

@@ -21,7 +21,7 @@ use Rattle.tender.specs.ArrivalOrder.{ReceivesAll, no-more, and-next, Ru
 received-all : {t last : Tender} {rs : List Reception} → ReceivesAll t rs last → viewed last ≡ receiveAll (viewed t) rs
 unfolding receiveAll
 received-all no-more = refl
-received-all (and-next {xs = xs} r after e more) = received-all more ∙ ap (λ (p : rules.Answer × rules.Tender × List ℕ). receiveAll (p .1) xs) (e .equal)
+received-all (and-next {xs = xs} r after e more) = received-all more ∙ ap (λ (p : rules.Answer × rules.Tender × List ℕ). receiveAll (p .1) xs) (e .answers .equal)
 
 module _ (m : List ℕ) (a : Admission) (rs : List Reception) (date time : ℕ) (opened : Opened) (closed : Changed) (allotted : Allotted)
     (run : Run m a rs date time opened closed allotted) where

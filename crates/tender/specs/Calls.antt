@@ -3,19 +3,19 @@
 use mathlib.Core.Path.{_≡_}
 use mathlib.Core.List.{List}
 use mathlib.Core.Option.{Option}
-use Prim.Native.Nat.{ℕ, _≤_}
+use Prim.Native.Nat.{ℕ}
 use Rattle.envelope.specs.Refusals.{unlessRefused}
 use Rattle.rules.specs.Opening.{Admission}
 use Rattle.rules.specs.Calls as rules
-use Rattle.errors.specs.Listed.{listed}
 use Rattle.terms.specs.Viewed.{openRefusal}
 use Rattle.refusals.specs.Conditions.{refusalNumber}
+use Rattle.outcomes.specs.Answers.{answerOf, unlessConfirmed, Answers}
 use Rattle.tender.specs.declared.Tender.{Tender}
 use Rattle.tender.specs.declared.Opened.{Opened}
 use Rattle.tender.specs.declared.Received.{Received}
 use Rattle.tender.specs.declared.Changed.{Changed}
 use Rattle.tender.specs.declared.Allotted.{Allotted}
-use Rattle.tender.specs.Viewed.{viewed, Given, answerOf, errorsIn, replyLength, unlessConfirmed, allottedIn}
+use Rattle.tender.specs.Viewed.{viewed, Given, allottedIn}
 
 pub record Opens (m : List ℕ) (a : Admission) (r : Opened) : Type 0 where
   pub equal : (openRefusal (r .answer), viewed (r .tender)) ≡ rules.openTender m a
@@ -23,11 +23,8 @@ pub record Opens (m : List ℕ) (a : Admission) (r : Opened) : Type 0 where
 
 -- the reply space is `after` the call
 pub record Receives (t : Tender) (expected : rules.Answer × rules.Tender × List ℕ) (r : Received) (after : List ℕ) : Type 0 where
-  pub equal : (answerOf r, viewed (r .tender), after) ≡ expected
-  pub errors-are : listed (r .errors) ≡ errorsIn (answerOf r)
-  pub length-is : r .length ≡ replyLength (answerOf r)
-  pub few : r .errors .n ≤ 16
-  pub unchanged : r .tender ≡ unlessConfirmed (answerOf r) t (r .tender)
+  pub answers : Answers expected (r .refusal) (r .errors) (r .length) (viewed (r .tender)) after
+  pub unchanged : r .tender ≡ unlessConfirmed (answerOf (r .refusal) (r .errors) (r .length)) t (r .tender)
   pub given : Given (r .tender)
 
 -- closing and revoking

@@ -16,9 +16,12 @@ returns : tie.Need-returns
 unfolding reading firstHolding
 returns c = rw (sym (c .before .before .is-6g1 .ensures) ∙ c .before .if1 .taken, c .fields-of .ensures)
 
+no-fields-requires : tie.Need-no-fields-requires
+no-fields-requires c κs = search needs
+
 returns-2 : tie.Need-returns-2
 unfolding reading firstHolding
-returns-2 c = rw (sym (c .before .is-6g1 .ensures) ∙ c .if1 .left)
+returns-2 c = rw (sym (c .before .before .is-6g1 .ensures) ∙ c .before .if1 .left, c .no-fields .ensures)
 
 pub read-spec : {M : Type 1} → statement M
-read-spec = tie.close (tie.spec is-6g1-requires fields-of-requires returns returns-2)
+read-spec = tie.close (tie.spec is-6g1-requires fields-of-requires no-fields-requires returns returns-2)

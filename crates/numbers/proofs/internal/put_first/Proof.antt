@@ -6,16 +6,17 @@ use native.Mathlib.Omega.{arith}
 use denote.Ref.{now}
 use lib.ListN.{length, take, drop}
 use lib.Seq.{take-nil, take-all}
+use Rattle.numbers.specs.Numbers.{inArray}
 use Rattle.numbers.proofs.Arrays.{room-more}
 use Rattle.numbers.proofs.internal.put_first.Statement.{statement}
 use Rattle.numbers.proofs.internal.put_first.Tie as tie
 
 abbrev Inv-loop : tie.InvT-loop
 Inv-loop numbers₀ all k₀ numbers k =
-    (k ≤ 45) × (length numbers ≡ length numbers₀) × (numbers ≡ take (length numbers₀) (take k all) ++ drop k numbers₀)
+    (k ≤ length all) × (length numbers ≡ length numbers₀) × (numbers ≡ take (length numbers₀) (take k all) ++ drop k numbers₀)
 
 abbrev μ-loop : tie.MeasureT-loop
-μ-loop numbers₀ all k₀ numbers k = 45 - k
+μ-loop numbers₀ all k₀ numbers k = length all - k
 
 loop-holds : tie.Need-loop-holds Inv-loop μ-loop
 loop-holds c =
@@ -48,11 +49,13 @@ same-length : tie.Need-same-length Inv-loop μ-loop
 same-length c = omega arith
 
 returns : tie.Need-returns Inv-loop μ-loop
+unfolding inArray
 returns c =
     let a = c .before .before .before .before .args in
     let l = c .before .loop in
-    let k : l .k ≡ 45 = omega arith in
-    l .inv .2 ∙ rw (k, take-all 45 (now (a .all)) (omega arith))
+    let all = now (a .all) in
+    let k : l .k ≡ length all = omega arith in
+    l .inv .2 ∙ rw (k, take-all (length all) all (omega arith))
 
 pub put-first-spec : {M : Type 1} → statement M
 put-first-spec =

@@ -3,13 +3,14 @@ use borrow.Author.Needs.{needs}
 use borrow.Author.Tests.{not-true, not-false}
 use mathlib.Core.Path.{_≡_, refl, sym, ap, _∙_}
 use mathlib.Core.Bool.{true}
-use mathlib.Core.List.{List, _++_}
+use mathlib.Core.List.{List}
 use Prim.Native.Nat.{ℕ}
 use native.Mathlib.Omega.{arith}
 use denote.Ref.{now}
-use lib.ListN.{length, take, drop, replicate}
+use lib.ListN.{replicate}
 use Rattle.layout.specs.Fields.{readable}
 use Rattle.envelope.specs.Application.{layout6G1}
+use Rattle.numbers.specs.Numbers.{inArray}
 use Rattle.optes.specs.Interface.{answered}
 use Rattle.numbers.proofs.Arrays.{numbers-only}
 use Rattle.optes.proofs.Interface.{numbers-unreadable, numbers-given, numbers-all}
@@ -47,7 +48,7 @@ returns-2 c =
     let a = c .before .before .before .before .before .before .before .before .before .before .before .before .before .args in
     let numbers = now (a .numbers) in
     let all = numbers-only (now (a .m)) (replicate 45 0) refl (c .before .before .before .before .before .before .put-all .ensures) in
-    ap (λ (l : List ℕ). (0, l)) (c .before .before .put-first .ensures ∙ ap (λ (l : List ℕ). take (length numbers) l ++ drop 45 numbers) all) ∙ sym (ap answered (numbers-given (now (a .m)) numbers (readable-there (c .before .before .before .before .before .before .before .before .before))))
+    ap (λ (l : List ℕ). (0, l)) (c .before .before .put-first .ensures ∙ ap (λ (l : List ℕ). inArray l numbers) all) ∙ sym (ap answered (numbers-given (now (a .m)) numbers (readable-there (c .before .before .before .before .before .before .before .before .before))))
 
 put-all-requires-2 : tie.Need-put-all-requires-2
 put-all-requires-2 c κs = (readable-there (c .before .before), omega arith)

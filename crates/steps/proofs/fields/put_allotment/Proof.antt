@@ -22,7 +22,7 @@ use Rattle.log.specs.Lines.{refusedLine}
 use Rattle.refusals.specs.declared.State.the-variants as state
 use Rattle.refusals.specs.Conditions.{refusalNumber}
 use Rattle.outcomes.specs.Outcomes.{viewedOf}
-use Rattle.tender.proofs.Allotting.{lent-length, lent-again}
+use Rattle.outcomes.proofs.Awarding.{lent-length, lent-again}
 use Rattle.refusals.proofs.Conditions.{kept-old, none-of}
 use Rattle.steps.specs.declared.Change.the-variants as change
 use Rattle.steps.proofs.Awarding.{lines-refused, lines-awarded, awards-told}

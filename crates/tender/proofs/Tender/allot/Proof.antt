@@ -11,7 +11,8 @@ use Rattle.book.specs.declared.Columns.{Columns}
 use Rattle.book.specs.Viewed as book
 use Rattle.book.proofs.Empty.{upTo64-small}
 use Rattle.book.proofs.Order.{bids-in-columns}
-use Rattle.tender.proofs.Allotting.{lent-length, allots}
+use Rattle.outcomes.proofs.Awarding.{lent-length}
+use Rattle.tender.proofs.Allotting.{allots}
 use borrow.Author.Needs.{needs}
 use Rattle.tender.proofs.Tender.allot.Statement.{statement}
 use Rattle.tender.proofs.Tender.allot.Tie as tie

@@ -1,31 +1,25 @@
 -- `tender::Tender::receive` meets its contract: what the reception comes to, with its reply. Assumes nothing.
 use borrow.Author.Needs.{needs}
-use borrow.Author.Tests.{ne-eqb}
-use mathlib.Core.Path.{_≡_, refl, sym, ap, subst, _∙_}
-use mathlib.Core.Bool.{false, not, _&&_}
+use mathlib.Core.Path.{_≡_, refl, sym, ap, _∙_}
+use mathlib.Core.Bool.{not}
 use mathlib.Core.List.{List}
-use mathlib.Core.Option.{Option, none}
-use Prim.Native.Nat.{ℕ, _<_}
-use native.Mathlib.Omega.{arith}
+use mathlib.Core.Option.{none}
 use denote.Ref.{now}
-use lib.Dec.{eqb}
 use lib.ListN.{length}
 use Rattle.laws.proofs.Arrays.{length-mapped}
 use Rattle.book.specs.Viewed.{Full}
 use Rattle.book.proofs.Order.{codes-viewed}
 use Rattle.rules.specs.Opening.{rising}
 use Rattle.rules.specs.Receiving.{Entry}
-use Rattle.rules.specs.Calls.{answerUnless, receive}
+use Rattle.rules.specs.Calls.{receive}
 use Rattle.errors.specs.Listed.{listed}
 use Rattle.checks.specs.Columns.{receptionOf}
-use Rattle.refusals.specs.declared.Refusal.the-variants as refusal
+use Rattle.refusals.specs.declared.Refusal.{Refusal}
 use Rattle.refusals.specs.Conditions.{refusalNumber, isSome}
 use Rattle.refusals.proofs.Conditions.{none-of}
-use Rattle.outcomes.specs.declared.internal.Outcome.{Outcome}
-use Rattle.outcomes.specs.Outcomes.{isHeld, ComesTo}
-use Rattle.tender.specs.declared.Received.{Received}
-use Rattle.tender.specs.Viewed.{viewed, tenderOf}
-use Rattle.tender.specs.Calls.{Receives}
+use Rattle.outcomes.specs.Outcomes.{ComesTo}
+use Rattle.tender.specs.Viewed.{viewed}
+use Rattle.outcomes.proofs.Answering.{not-held}
 use Rattle.tender.proofs.Answering.{receives-refused, receives-answered}
 use Rattle.tender.proofs.Tender.receive.Statement.{statement}
 use Rattle.tender.proofs.Tender.receive.Tie as tie
@@ -65,9 +59,9 @@ returns c =
     let start = o .before .before .before .before .before .before .before .before .before .before .before in
     let a = start .args in
     let e = c .unreceived .ensures in
-    receives-refused (a .self) (start .pre) (receptionOf (now (a .m)) (a .date) (a .time) (now (a .space))) (c .unreceived .result) (e .1) (e .2) (e .3) (e .4) (o .outcome-of .result .refusal) (e .0)
-    (sym (comes o .number (now (a .space)) refl))
-    (sym (c .before .before .is-refused .ensures) ∙ c .before .if1 .taken)
+    receives-refused (a .self) (start .pre) (receptionOf (now (a .m)) (a .date) (a .time) (now (a .space))) (c .unreceived .result) (e .1) (e .2) (e .3) (e .4)
+    (sym (comes o .number (now (a .space)) refl) ∙ ap refusalNumber (sym (e .0)))
+    (ap (λ (r : Refusal). isSome (refusalNumber r)) (e .0) ∙ sym (c .before .before .is-refused .ensures) ∙ c .before .if1 .taken)
 
 -- the reception is not refused
 unrefused : (c : tie.Else1) → refusalNumber (c .before .before .outcome-of .result .refusal) ≡ none
@@ -85,12 +79,7 @@ held-in-requires c κs = comes (c .before .before .before .before .before .befor
 same-length : tie.Need-same-length
 same-length c = search needs
 
--- a message with errors is not held
-not-held : (o : Outcome) → refusalNumber (o .refusal) ≡ none → 0 < o .errors .n → isHeld o ≡ false
-not-held o q h = ap (λ (l : Option ℕ). not (isSome l) && eqb (o .errors .n) 0) q ∙ ne-eqb (o .errors .n) 0 (λ e. omega (arith, h, e))
-
 returns-2 : tie.Need-returns-2
-unfolding receive answerUnless
 returns-2 c =
     let p = c .before .before .before in
     let l = p .before .before .before in
@@ -101,13 +90,12 @@ returns-2 c =
     let e = comes o in
     let q = unrefused l in
     let r = o .outcome-of .result in
-    let answer : Received = record { refusal = refusal.None; errors = r .errors; length = p .put-reply .result; tender = tenderOf (a .self .state) (a .self .terms) (c .held-in .result) } in
-    subst (λ (n : Option ℕ). Receives (a .self) (answerUnless n (viewed (a .self)) x) answer (p .put-reply .last .0)) (sym (sym (e .number (now (a .space)) refl) ∙ q))
-    (receives-answered (a .self) (start .pre) x (r .errors) (p .put-reply .result) (c .held-in .result) (p .put-reply .last .0)
+    receives-answered (a .self) (start .pre) x (r .errors) (p .put-reply .result) (c .held-in .result) (p .put-reply .last .0)
     (ap (λ (es : List Entry). (listed (r .errors), es)) (c .held-in .ensures .0) ∙ e .left q (now (a .space)))
+    (sym (e .number (now (a .space)) refl) ∙ q)
     (λ h. c .held-in .ensures .1 (not-held r q h))
     (e .few)
-    (p .put-reply .ensures))
+    (p .put-reply .ensures)
 
 pub receive-spec : {M : Type 1} → statement M
 receive-spec =

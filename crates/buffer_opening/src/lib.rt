@@ -1,0 +1,2 @@
+// A tender opened in the words of a buffer.
+pub mod internal;

@@ -1,0 +1,4 @@
+pub mod Changing
+pub mod Fitting
+pub mod Leaving
+pub mod Allotting
