@@ -1,0 +1,245 @@
+// An OPTES tender in C and C++: opened by a 6G0, filled by 6G1s, closed, allotted or revoked.
+//
+// Tender: it stands in a struct optes_book, which the host lends and never looks into. It may be copied by
+// assignment and saved as it is; there is nothing to release. Other calls than optes_book_open take it as
+// opening or an earlier call left it.
+// Threads: the library keeps no state, so calls on different tenders may run at the same time. While a call
+// runs, no other thread may write what it reads, or touch what it writes.
+// Refusals: a call that is refused returns the number of the refusal and changes nothing: no word of the
+// tender, no byte of the space, no number of an answer. Nothing else can go wrong.
+// Pointers: none may be null, even if it points to no bytes or codes. What a call writes must not overlap
+// what it reads, nor what else it writes.
+// Dates are numbers ddmmyyyy and times hhmmss. Rates are in hundred-thousandths of a percent and amounts in
+// eurocents.
+#ifndef OPTES_BOOK_H
+#define OPTES_BOOK_H
+
+#include <stddef.h>
+#include <stdint.h>
+
+// What a call returns: OPTES_OK, or the number of the first refusal that applies. Each call says below which
+// ones it has. The names that optes.h has too mean the same there.
+#define OPTES_OK 0
+#define OPTES_NOT_ANNOUNCEMENT 1   // The announcement's fields, order or lengths are wrong.
+#define OPTES_OTHER_ORIGIN 2       // Its type is not 6G0 or its sender not 01000.
+#define OPTES_MALFORMED 3          // A digit field, date, time, slash or identifier in it is malformed.
+#define OPTES_UNKNOWN_TYPE 4       // Its field 6G1 is none of the types of operation.
+#define OPTES_IMPOSSIBLE 5         // Most bids not 1 to 10, an amount zero, or the maximum below the minimum.
+#define OPTES_DISORDERED 6         // Its dates are out of order.
+#define OPTES_BAD_CODES 7          // The codes are none, over 64, not strictly rising, or one is over 99999.
+#define OPTES_ALREADY_REVOKED 8    // The tender is revoked.
+#define OPTES_ALREADY_OVER 9       // It is closed or announced.
+#define OPTES_CLOCK_INVALID 10     // The clock's date or time is invalid.
+#define OPTES_SPACE_SHORT 11       // The reply space is under OPTES_REPLY_BYTES.
+#define OPTES_UNREADABLE 12        // The message cannot be read as a 6G1.
+#define OPTES_BEFORE_CUT_OFF 13    // The cut-off has not passed.
+#define OPTES_STILL_OPEN 14        // The tender is open.
+#define OPTES_ALREADY_ANNOUNCED 15 // It is announced.
+#define OPTES_BIDS_EXCEED 16       // The bids exceed 999,999,999,999,999,999 eurocents.
+#define OPTES_NO_TENDER 100        // The words are not those of a tender: too few, or no call left them so.
+
+// Where a tender stands.
+#define OPTES_STATE_OPEN 0
+#define OPTES_STATE_CLOSED 1
+#define OPTES_STATE_ANNOUNCED 2
+#define OPTES_STATE_REVOKED 3
+
+// What the Treasury does: in LA it collects and the lowest rate is best, in LP it invests and the highest is.
+#define OPTES_SIDE_LA 0
+#define OPTES_SIDE_LP 1
+
+// The sizes: of a tender, of what it holds, and of the least space for a reply.
+#define OPTES_BOOK_WORDS 1496
+#define OPTES_BOOK_CODES 64
+#define OPTES_BOOK_CODE_PLACES 10
+#define OPTES_BOOK_PLACES 640
+#define OPTES_BOOK_ERRORS 16
+#define OPTES_BOOK_IDENTIFIER_BYTES 11
+#define OPTES_REPLY_BYTES 418
+
+// The highest code that a counterparty may have.
+#define OPTES_BOOK_CODE_MOST 99999
+
+// How many numbers each of the calls below has to tell.
+#define OPTES_BOOK_ANSWER_NUMBERS 18
+#define OPTES_BOOK_MARGINAL_NUMBERS 2
+#define OPTES_BOOK_TERMS_NUMBERS 21
+#define OPTES_BOOK_CODES_NUMBERS 65
+#define OPTES_BOOK_HELD_NUMBERS 23
+
+// The errors with which a message is returned, by the field that they are about.
+#define OPTES_ERROR_TYPE 900          // 001: the type is not 6G1.
+#define OPTES_ERROR_SENDER 309        // 040: the sender is not digits.
+#define OPTES_ERROR_NOT_ADMITTED 300  // 040: the sender is not admitted.
+#define OPTES_ERROR_RECIPIENT 599     // 050: the recipient is not 01000.
+#define OPTES_ERROR_CRO 521           // 020: the CRO is not digits.
+#define OPTES_ERROR_DATE 502          // D31: the reference date is no date.
+#define OPTES_ERROR_OTHER_DATE 522    // D31: it is not the execution date.
+#define OPTES_ERROR_TIME 503          // 601: the reference time is no time.
+#define OPTES_ERROR_OLD 302           // 601: it is not later than the one that is held.
+#define OPTES_ERROR_CHECK 908         // 010: the check digit is not digits.
+#define OPTES_ERROR_IDENTIFIER 303    // 6G0: the identifier is not this tender's.
+#define OPTES_ERROR_PLACE 901         // 6G6: a place is malformed.
+#define OPTES_ERROR_GAP 902           // 6G6: a filled place stands after a zero one.
+#define OPTES_ERROR_MANY 903          // 6G6: more places are filled than are allowed.
+#define OPTES_ERROR_RATE 904          // 6G6: a rate has one of its last three digits not zero.
+#define OPTES_ERROR_BELOW_MINIMUM 905 // 6G6: an amount is below the minimum.
+#define OPTES_ERROR_INCREMENT 906     // 6G6: an amount is not the minimum plus a multiple of the increment.
+#define OPTES_ERROR_MAXIMUM 907       // 6G6: the total is above the maximum that was told.
+#define OPTES_ERROR_LATE 301          // 6G5: received later than the cut-off.
+
+#ifdef __cplusplus
+extern "C" {
+#endif
+
+// The calls of the archive. The functions further below call them with the right sizes, so that a host
+// seldom needs these. Each pointer is followed by how many elements it points to. An array that is told
+// numbers gets as many of them as it has room for, from the first on, and any entries past them stay as they
+// were. Words past OPTES_BOOK_WORDS are not looked at. Fewer are OPTES_NO_TENDER, which comes before every
+// other refusal; optes_words_open asks nothing else of the words, and sets all of them.
+uint64_t optes_words_open(uint64_t *words, size_t count, const uint8_t *m, size_t n, const uint32_t *codes,
+    size_t admitted);
+uint64_t optes_words_receive(uint64_t *words, size_t count, const uint8_t *m, size_t n, uint64_t date,
+    uint64_t time, uint8_t *space, size_t room, uint64_t *told, size_t numbers);
+uint64_t optes_words_close(uint64_t *words, size_t count, uint64_t date, uint64_t time);
+uint64_t optes_words_allot(uint64_t *words, size_t count, uint64_t *awards, size_t places, uint64_t *told,
+    size_t numbers);
+uint64_t optes_words_revoke(uint64_t *words, size_t count);
+uint64_t optes_words_state(const uint64_t *words, size_t count);
+uint64_t optes_words_terms(const uint64_t *words, size_t count, uint64_t *told, size_t numbers);
+uint64_t optes_words_codes(const uint64_t *words, size_t count, uint64_t *told, size_t numbers);
+uint64_t optes_words_held(const uint64_t *words, size_t count, uint64_t code, uint64_t *told,
+    size_t numbers);
+
+// A tender.
+struct optes_book {
+    uint64_t words[OPTES_BOOK_WORDS];
+};
+
+// The answer to a message: without errors it is accepted and the reply a 6G2, else the reply is an RE01.
+struct optes_answer {
+    uint64_t length; // How many bytes the reply has.
+    uint64_t errors; // How many errors the message has.
+    uint64_t codes[OPTES_BOOK_ERRORS]; // Their codes in the order of the checks, zeros past the last.
+};
+
+// The awards and the marginal rate.
+struct optes_allotment {
+    uint64_t has_marginal; // 1 if there is a marginal rate. Where it is 0, so is the rate.
+    uint64_t marginal;
+    uint64_t awards[OPTES_BOOK_PLACES]; // Ten for each code, the codes rising. Zeros past the last code.
+};
+
+// What was announced.
+struct optes_terms {
+    uint8_t identifier[OPTES_BOOK_IDENTIFIER_BYTES];
+    uint64_t side; // OPTES_SIDE_LA or OPTES_SIDE_LP
+    uint64_t execution; // ddmmyyyy
+    uint64_t cut_off; // hhmmss
+    uint64_t most_bids;
+    uint64_t offered;
+    uint64_t minimum;
+    uint64_t increment;
+    uint64_t maximum; // 0 if none was told.
+    uint64_t minimum_allocation;
+    uint64_t limit_rate;
+};
+
+// The admitted codes.
+struct optes_codes {
+    uint64_t count;
+    uint64_t codes[OPTES_BOOK_CODES]; // Rising, zeros past the last.
+};
+
+// What is held for a code. All numbers are 0 for a code that is not admitted.
+struct optes_held {
+    uint64_t admitted; // 1 if the code is admitted, else 0.
+    uint64_t has_time; // 1 if a message of it was accepted. Where it is 0, so is the time.
+    uint64_t time; // The reference time of the message that counts, hhmmss.
+    uint64_t rates[OPTES_BOOK_CODE_PLACES];
+    uint64_t amounts[OPTES_BOOK_CODE_PLACES];
+};
+
+// Opens a tender for the announcement of n bytes at m and the codes, which are in rising order. What stood in
+// the book before does not matter. Refused with 1 to 7.
+static inline uint64_t optes_book_open(struct optes_book *b, const uint8_t *m, size_t n,
+    const uint32_t *codes, size_t count)
+{
+    return optes_words_open(b->words, OPTES_BOOK_WORDS, m, n, codes, count);
+}
+
+// Receives the n bytes at m at this date and time, and writes the reply to the start of the space, which has
+// at least OPTES_REPLY_BYTES; the bytes past the reply stay as they were. A message with errors is answered
+// too, and changes nothing in the tender. Refused with 8 to 12, or OPTES_NO_TENDER.
+static inline uint64_t optes_book_receive(struct optes_book *b, const uint8_t *m, size_t n, uint64_t date,
+    uint64_t time, uint8_t *space, size_t room, struct optes_answer *answer)
+{
+    return optes_words_receive(b->words, OPTES_BOOK_WORDS, m, n, date, time, space, room,
+        (uint64_t *)answer, OPTES_BOOK_ANSWER_NUMBERS);
+}
+
+// Closes the tender at this date and time. Refused with 8, 9, 10 and 13, or OPTES_NO_TENDER.
+static inline uint64_t optes_book_close(struct optes_book *b, uint64_t date, uint64_t time)
+{
+    return optes_words_close(b->words, OPTES_BOOK_WORDS, date, time);
+}
+
+// Works out the awards and announces the tender. Refused with 8, 14, 15 and 16, or OPTES_NO_TENDER.
+static inline uint64_t optes_book_allot(struct optes_book *b, struct optes_allotment *a)
+{
+    return optes_words_allot(b->words, OPTES_BOOK_WORDS, a->awards, OPTES_BOOK_PLACES, (uint64_t *)a,
+        OPTES_BOOK_MARGINAL_NUMBERS);
+}
+
+// Revokes the tender. Refused with 8 and 15, or OPTES_NO_TENDER.
+static inline uint64_t optes_book_revoke(struct optes_book *b)
+{
+    return optes_words_revoke(b->words, OPTES_BOOK_WORDS);
+}
+
+// Where the tender stands: one of the OPTES_STATE_ numbers, or OPTES_NO_TENDER.
+static inline uint64_t optes_book_state(const struct optes_book *b)
+{
+    return optes_words_state(b->words, OPTES_BOOK_WORDS);
+}
+
+// Tells what was announced. Refused with OPTES_NO_TENDER alone, as are the next two.
+static inline uint64_t optes_book_terms(const struct optes_book *b, struct optes_terms *t)
+{
+    uint64_t told[OPTES_BOOK_TERMS_NUMBERS];
+    const uint64_t *number = told + OPTES_BOOK_IDENTIFIER_BYTES;
+    uint64_t refusal = optes_words_terms(b->words, OPTES_BOOK_WORDS, told, OPTES_BOOK_TERMS_NUMBERS);
+    if (refusal != OPTES_OK)
+        return refusal;
+    for (size_t k = 0; k < OPTES_BOOK_IDENTIFIER_BYTES; k++)
+        t->identifier[k] = (uint8_t)told[k];
+    t->side = number[0];
+    t->execution = number[1];
+    t->cut_off = number[2];
+    t->most_bids = number[3];
+    t->offered = number[4];
+    t->minimum = number[5];
+    t->increment = number[6];
+    t->maximum = number[7];
+    t->minimum_allocation = number[8];
+    t->limit_rate = number[9];
+    return OPTES_OK;
+}
+
+// Tells the admitted codes.
+static inline uint64_t optes_book_codes(const struct optes_book *b, struct optes_codes *c)
+{
+    return optes_words_codes(b->words, OPTES_BOOK_WORDS, (uint64_t *)c, OPTES_BOOK_CODES_NUMBERS);
+}
+
+// Tells what is held for a code.
+static inline uint64_t optes_book_held(const struct optes_book *b, uint64_t code, struct optes_held *h)
+{
+    return optes_words_held(b->words, OPTES_BOOK_WORDS, code, (uint64_t *)h, OPTES_BOOK_HELD_NUMBERS);
+}
+
+#ifdef __cplusplus
+}
+#endif
+
+#endif
