@@ -14,30 +14,36 @@
 // The exit status of a program that its guard stopped.
 #define STOPPED 3
 
-static void guarded_open(struct guarded *g, enum guard guard)
+static size_t page_size(void)
 {
-    g->guard = guard;
-    g->size = (size_t)sysconf(_SC_PAGESIZE);
-    void *map = mmap(NULL, 3 * g->size, PROT_READ | PROT_WRITE, MAP_PRIVATE | MAP_ANONYMOUS, -1, 0);
-    CHECK(map != MAP_FAILED);
-    g->page = (uint8_t *)map + g->size;
-    CHECK(mprotect(g->page - g->size, g->size, PROT_NONE) == 0);
-    CHECK(mprotect(g->page + g->size, g->size, PROT_NONE) == 0);
+    return (size_t)sysconf(_SC_PAGESIZE);
 }
 
-static void guarded_close(struct guarded *g)
+void guarded_open(struct guarded *g, enum guard guard, size_t n)
 {
-    CHECK(munmap(g->page - g->size, 3 * g->size) == 0);
+    size_t page = page_size();
+    g->guard = guard;
+    g->size = (n + page - 1) / page * page;
+    void *map = mmap(NULL, g->size + 2 * page, PROT_READ | PROT_WRITE, MAP_PRIVATE | MAP_ANONYMOUS, -1, 0);
+    CHECK(map != MAP_FAILED);
+    g->pages = (uint8_t *)map + page;
+    CHECK(mprotect(g->pages - page, page, PROT_NONE) == 0);
+    CHECK(mprotect(g->pages + g->size, page, PROT_NONE) == 0);
+}
+
+void guarded_close(struct guarded *g)
+{
+    CHECK(munmap(g->pages - page_size(), g->size + 2 * page_size()) == 0);
 }
 
 void buffers_open(struct buffers *b, enum guard guard)
 {
-    guarded_open(&b->message, guard);
-    guarded_open(&b->type, guard);
-    guarded_open(&b->identifier, guard);
-    guarded_open(&b->name, guard);
-    guarded_open(&b->space, guard);
-    guarded_open(&b->application, guard);
+    guarded_open(&b->message, guard, 1);
+    guarded_open(&b->type, guard, 1);
+    guarded_open(&b->identifier, guard, 1);
+    guarded_open(&b->name, guard, 1);
+    guarded_open(&b->space, guard, 1);
+    guarded_open(&b->application, guard, 1);
 }
 
 void buffers_close(struct buffers *b)
@@ -53,7 +59,7 @@ void buffers_close(struct buffers *b)
 uint8_t *guarded_bytes(const struct guarded *g, size_t n)
 {
     assert(n <= g->size);
-    return g->guard == GUARD_AFTER ? g->page + g->size - n : g->page;
+    return g->guard == GUARD_AFTER ? g->pages + g->size - n : g->pages;
 }
 
 uint8_t *guarded_copy(const struct guarded *g, const void *from, size_t n)

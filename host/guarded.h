@@ -9,14 +9,18 @@
 // Where the page that may not be touched stands.
 enum guard { GUARD_AFTER, GUARD_BEFORE };
 
-// One page between two that may not be touched.
+// Some pages between two that may not be touched.
 struct guarded {
     enum guard guard;
-    uint8_t *page;
+    uint8_t *pages;
     size_t size;
 };
 
-// The buffers of one run, each on a page of its own.
+// Opens pages for at least n bytes.
+void guarded_open(struct guarded *g, enum guard guard, size_t n);
+void guarded_close(struct guarded *g);
+
+// The buffers of one run with a 6G1, each on a page of its own.
 struct buffers {
     struct guarded message;
     struct guarded type;

@@ -1,0 +1,16 @@
+// The cases, by what they concern. Each runs with the buffers of one guard.
+#ifndef HOST_BOOK_CASES_H
+#define HOST_BOOK_CASES_H
+
+#include "desk.h"
+
+void opening_cases(const struct desk *d);
+void receiving_cases(const struct desk *d);
+void error_cases(const struct desk *d);
+void ending_cases(const struct desk *d);
+void telling_cases(const struct desk *d);
+void saving_cases(const struct desk *d);
+void struct_cases(const struct desk *d);
+void damage_cases(const struct desk *d);
+
+#endif
