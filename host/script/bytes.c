@@ -4,11 +4,13 @@
 #include <stdlib.h>
 #include <string.h>
 
+#include "program.h"
+
 #define FIRST_ROOM 64
 
 static _Noreturn void no_memory(void)
 {
-    fputs("compose: no memory\n", stderr);
+    fprintf(stderr, "%s: no memory\n", program);
     exit(2);
 }
 

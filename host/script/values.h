@@ -1,6 +1,6 @@
 // The values that words stand for: digits, numbers, texts, clocks and bytes.
-#ifndef COMPOSE_VALUES_H
-#define COMPOSE_VALUES_H
+#ifndef SCRIPT_VALUES_H
+#define SCRIPT_VALUES_H
 
 #include <stddef.h>
 #include <stdint.h>
@@ -34,8 +34,5 @@ void add_raw(struct bytes *to, const struct line *line, size_t from);
 
 // The byte of a word of two hexadecimal digits.
 uint8_t tag_of(const struct line *line, const struct word *word);
-
-// Adds a field of this tag, which holds at most 65,535 bytes.
-void add_field(struct bytes *session, const struct line *line, uint8_t tag, const struct bytes *held);
 
 #endif

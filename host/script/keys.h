@@ -1,6 +1,6 @@
 // The keys of a step, each followed by its value.
-#ifndef COMPOSE_KEYS_H
-#define COMPOSE_KEYS_H
+#ifndef SCRIPT_KEYS_H
+#define SCRIPT_KEYS_H
 
 #include <stddef.h>
 

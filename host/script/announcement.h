@@ -1,6 +1,6 @@
 // A 6G0 announcement: the worked example's, with the values of the keys in its place.
-#ifndef COMPOSE_ANNOUNCEMENT_H
-#define COMPOSE_ANNOUNCEMENT_H
+#ifndef SCRIPT_ANNOUNCEMENT_H
+#define SCRIPT_ANNOUNCEMENT_H
 
 #include "bytes.h"
 #include "line.h"

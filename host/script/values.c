@@ -2,7 +2,6 @@
 
 #include <string.h>
 
-#define FIELD_MOST 65535
 #define DATE_CHARACTERS 8
 #define TIME_CHARACTERS 6
 
@@ -109,14 +108,4 @@ uint8_t tag_of(const struct line *line, const struct word *word)
     if (word->quoted || word->length != 2)
         refuse_word(line, "tag", word, "is not two hexadecimal digits");
     return byte_at(line, word, 0);
-}
-
-void add_field(struct bytes *session, const struct line *line, uint8_t tag, const struct bytes *held)
-{
-    if (held->length > FIELD_MOST)
-        refuse(line, "the field would hold more than 65535 bytes");
-    bytes_add_one(session, tag);
-    bytes_add_one(session, (uint8_t)(held->length >> 8));
-    bytes_add_one(session, (uint8_t)(held->length & 0xff));
-    bytes_add(session, held->at, held->length);
 }

@@ -1,6 +1,6 @@
 // A line of a script: its number and its words.
-#ifndef COMPOSE_LINE_H
-#define COMPOSE_LINE_H
+#ifndef SCRIPT_LINE_H
+#define SCRIPT_LINE_H
 
 #include <stdbool.h>
 #include <stddef.h>

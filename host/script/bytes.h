@@ -1,6 +1,6 @@
 // Bytes that grow at their end.
-#ifndef COMPOSE_BYTES_H
-#define COMPOSE_BYTES_H
+#ifndef SCRIPT_BYTES_H
+#define SCRIPT_BYTES_H
 
 #include <stddef.h>
 #include <stdint.h>

@@ -5,6 +5,7 @@
 #include <string.h>
 
 #include "bytes.h"
+#include "program.h"
 
 // A longer word is shown up to here in an error.
 #define SHOWN 40
@@ -76,14 +77,14 @@ bool word_is(const struct word *word, const char *name)
 
 void refuse(const struct line *line, const char *wrong)
 {
-    fprintf(stderr, "compose: line %zu: %s\n", line->number, wrong);
+    fprintf(stderr, "%s: line %zu: %s\n", program, line->number, wrong);
     exit(2);
 }
 
 void refuse_word(const struct line *line, const char *name, const struct word *word,
     const char *wrong)
 {
-    fprintf(stderr, "compose: line %zu: %s '", line->number, name);
+    fprintf(stderr, "%s: line %zu: %s '", program, line->number, name);
     for (size_t i = 0; i < word->length && i < SHOWN; i++) {
         char c = word->text[i];
         fputc(c >= ' ' && c <= '~' ? c : '?', stderr);

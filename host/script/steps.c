@@ -5,6 +5,7 @@
 #include "values.h"
 
 #define CODE_DIGITS 5
+#define FIELD_MOST 65535
 
 static void hold_codes(struct bytes *held, const struct line *line)
 {
@@ -36,13 +37,13 @@ static void hold_nothing(struct bytes *held, const struct line *line)
 }
 
 // A step whose tag is fixed: its name, its tag and what its field holds.
-struct step {
+struct named_step {
     const char *name;
     uint8_t tag;
     void (*hold)(struct bytes *held, const struct line *line);
 };
 
-static const struct step steps[] = {
+static const struct named_step steps[] = {
     {"admit", 0xa0, hold_codes},
     {"announce", 0xa1, add_announcement},
     {"apply", 0xa2, add_application},
@@ -52,47 +53,44 @@ static const struct step steps[] = {
     {"allot", 0xa5, hold_nothing},
 };
 
-// Adds the bytes of a line `raw BYTES ..` as they are.
-static void add_bytes(struct bytes *session, const struct line *line)
+// The bytes of a line `raw BYTES ..` as they are.
+static struct step raw_step(const struct line *line)
 {
+    struct step step = {.raw = true};
     if (line->count < 2)
         refuse(line, "raw has no bytes");
-    add_raw(session, line, 1);
+    add_raw(&step.held, line, 1);
+    return step;
 }
 
-// Adds the field of a line `field TAG BYTES ..`.
-static void add_any_field(struct bytes *session, const struct line *line)
+// The field of a line `field TAG BYTES ..`.
+static struct step any_field(const struct line *line)
 {
-    struct bytes held = {0};
     if (line->count < 2)
         refuse(line, "field has no tag");
-    uint8_t tag = tag_of(line, &line->words[1]);
-    add_raw(&held, line, 2);
-    add_field(session, line, tag, &held);
-    bytes_free(&held);
+    struct step step = {.tag = tag_of(line, &line->words[1])};
+    add_raw(&step.held, line, 2);
+    return step;
 }
 
-static const struct step *step_of(const struct line *line)
+static struct step step_by_name(const struct line *line)
 {
-    for (size_t k = 0; k < sizeof steps / sizeof *steps; k++)
-        if (word_is(&line->words[0], steps[k].name))
-            return &steps[k];
+    for (size_t k = 0; k < sizeof steps / sizeof *steps; k++) {
+        if (word_is(&line->words[0], steps[k].name)) {
+            struct step step = {.tag = steps[k].tag};
+            steps[k].hold(&step.held, line);
+            return step;
+        }
+    }
     refuse_word(line, "step", &line->words[0], "is not known");
 }
 
-void add_step(struct bytes *session, const struct line *line)
+struct step step_of(const struct line *line)
 {
-    if (word_is(&line->words[0], "raw")) {
-        add_bytes(session, line);
-        return;
-    }
-    if (word_is(&line->words[0], "field")) {
-        add_any_field(session, line);
-        return;
-    }
-    const struct step *step = step_of(line);
-    struct bytes held = {0};
-    step->hold(&held, line);
-    add_field(session, line, step->tag, &held);
-    bytes_free(&held);
+    if (word_is(&line->words[0], "raw"))
+        return raw_step(line);
+    struct step step = word_is(&line->words[0], "field") ? any_field(line) : step_by_name(line);
+    if (step.held.length > FIELD_MOST)
+        refuse(line, "the field would hold more than 65535 bytes");
+    return step;
 }

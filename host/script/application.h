@@ -1,6 +1,6 @@
 // A 6G1 application with its reception, written by the library from numbers and texts.
-#ifndef COMPOSE_APPLICATION_H
-#define COMPOSE_APPLICATION_H
+#ifndef SCRIPT_APPLICATION_H
+#define SCRIPT_APPLICATION_H
 
 #include "bytes.h"
 #include "line.h"
