@@ -1,0 +1,159 @@
+#include "calls.h"
+
+#include <inttypes.h>
+#include <stdio.h>
+
+#include "book.h"
+#include "reply.h"
+#include "texts.h"
+
+#define CODE_DIGITS 5
+#define DATE_DIGITS 8
+#define TIME_DIGITS 6
+#define CLOCK_BYTES (DATE_DIGITS + TIME_DIGITS)
+#define SENDER_AT 9
+#define CODES_ON_A_LINE 16
+
+enum tag { TAG_ADMIT = 0xa0, TAG_ANNOUNCE, TAG_RECEIVE, TAG_CLOSE, TAG_REVOKE, TAG_ALLOT };
+
+static bool is_digits(const uint8_t *text, size_t n)
+{
+    for (size_t i = 0; i < n; i++)
+        if (text[i] < '0' || text[i] > '9')
+            return false;
+    return true;
+}
+
+// The number of n digits; the largest of all where a byte is none, which no call takes for a clock.
+static uint64_t number_at(const uint8_t *text, size_t n)
+{
+    uint64_t number = 0;
+    if (!is_digits(text, n))
+        return UINT64_MAX;
+    for (size_t i = 0; i < n; i++)
+        number = number * 10 + (uint64_t)(text[i] - '0');
+    return number;
+}
+
+// Whether a field of a tag that has a call holds what the call takes.
+static bool holds_call(const struct step *step)
+{
+    size_t n = step->held.length;
+    switch (step->tag) {
+    case TAG_ADMIT:
+        return n % CODE_DIGITS == 0 && is_digits(step->held.at, n);
+    case TAG_RECEIVE:
+        return n >= CLOCK_BYTES;
+    case TAG_CLOSE:
+        return n == CLOCK_BYTES;
+    case TAG_REVOKE:
+    case TAG_ALLOT:
+        return n == 0;
+    default:
+        return true;
+    }
+}
+
+void expect_call(const struct line *line, const struct step *step)
+{
+    if (step->raw)
+        refuse(line, "raw bytes make no call");
+    if (step->tag < TAG_ADMIT || step->tag > TAG_ALLOT)
+        refuse_word(line, "tag", &line->words[1], "makes no call");
+    if (!holds_call(step))
+        refuse(line, "the field does not hold what its call takes");
+}
+
+static void admit(struct rehearsal *r, const struct bytes *held)
+{
+    r->count = 0;
+    for (size_t at = 0; at < held->length; at += CODE_DIGITS) {
+        r->codes = grown(r->codes, r->count, &r->room, sizeof *r->codes);
+        r->codes[r->count++] = (uint32_t)number_at(held->at + at, CODE_DIGITS);
+    }
+    printf("    codes kept for the next announcement: %zu", r->count);
+    for (size_t k = 0; k < r->count; k++)
+        printf("%s%05" PRIu32, k % CODES_ON_A_LINE == 0 ? "\n        " : " ", r->codes[k]);
+    putchar('\n');
+}
+
+// Shows a refusal, and gives whether the call was accepted.
+static bool accepted(uint64_t answer)
+{
+    if (answer != OPTES_OK)
+        printf("    refused with %" PRIu64 ": %s\n", answer, refusal_text(answer));
+    return answer == OPTES_OK;
+}
+
+// A pointer of a call may not be null, though there is nothing to point to.
+static const void *not_null(const void *pointer)
+{
+    static const uint64_t nothing = 0;
+    return pointer != NULL ? pointer : &nothing;
+}
+
+static void announce(struct rehearsal *r, const struct bytes *held)
+{
+    if (accepted(optes_book_open(&r->book, not_null(held->at), held->length, not_null(r->codes), r->count))) {
+        puts("    opened");
+        show_terms(&r->book);
+    }
+}
+
+static void receive(struct rehearsal *r, const struct bytes *held)
+{
+    uint8_t space[OPTES_REPLY_BYTES];
+    struct optes_answer answer;
+    const uint8_t *message = held->at + CLOCK_BYTES;
+    uint64_t date = number_at(held->at, DATE_DIGITS), time = number_at(held->at + DATE_DIGITS, TIME_DIGITS);
+    if (!accepted(optes_book_receive(&r->book, message, held->length - CLOCK_BYTES, date, time, space,
+            sizeof space, &answer)))
+        return;
+    show_reply(space, &answer);
+    if (answer.errors == 0)
+        show_held(&r->book, number_at(message + SENDER_AT, CODE_DIGITS));
+}
+
+static void close_at(struct rehearsal *r, const struct bytes *held)
+{
+    uint64_t date = number_at(held->at, DATE_DIGITS), time = number_at(held->at + DATE_DIGITS, TIME_DIGITS);
+    if (accepted(optes_book_close(&r->book, date, time)))
+        puts("    closed");
+}
+
+static void allot(struct rehearsal *r)
+{
+    struct optes_allotment given;
+    if (accepted(optes_book_allot(&r->book, &given)))
+        show_awards(&r->book, &given);
+}
+
+static void revoke(struct rehearsal *r)
+{
+    if (accepted(optes_book_revoke(&r->book)))
+        puts("    revoked");
+}
+
+void make_call(struct rehearsal *r, const struct step *step)
+{
+    switch (step->tag) {
+    case TAG_ADMIT:
+        admit(r, &step->held);
+        return;
+    case TAG_ANNOUNCE:
+        announce(r, &step->held);
+        break;
+    case TAG_RECEIVE:
+        receive(r, &step->held);
+        break;
+    case TAG_CLOSE:
+        close_at(r, &step->held);
+        break;
+    case TAG_REVOKE:
+        revoke(r);
+        break;
+    default:
+        allot(r);
+    }
+    printf("    state: %s\n", state_text(optes_book_state(&r->book)));
+}
