@@ -110,8 +110,19 @@ static void bids_exceed(const struct desk *d)
     CHECK(call_allot(d, &b) == 8);
 }
 
+// Closing, allotting and revoking change the state and nothing else.
+static void state_alone(const struct desk *d)
+{
+    struct optes_book open = filled(d), over = closed(d), after = announced(d), gone = revoked(d);
+    over.words[STATE] = after.words[STATE] = gone.words[STATE] = OPTES_STATE_OPEN;
+    CHECK(memcmp(&over, &open, sizeof open) == 0);
+    CHECK(memcmp(&after, &open, sizeof open) == 0);
+    CHECK(memcmp(&gone, &open, sizeof open) == 0);
+}
+
 void damage_cases(const struct desk *d)
 {
+    state_alone(d);
     too_few_words(d);
     heads(d);
     order_of_codes(d);
