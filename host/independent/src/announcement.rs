@@ -46,7 +46,7 @@ enum Field {
 }
 
 /// What a tender was announced with.
-#[derive(Clone, Debug)]
+#[derive(Clone, Debug, PartialEq, Eq)]
 pub struct Terms {
     pub identifier: [u8; 11],
     pub execution: Date,
@@ -55,6 +55,7 @@ pub struct Terms {
     pub minimum: Amount,
     pub increment: Amount,
     pub maximum: Option<Amount>,
+    pub minimum_allocation: Amount,
     pub offer: Offer,
 }
 
@@ -66,6 +67,7 @@ struct Characteristics {
     minimum: u64,
     increment: u64,
     maximum: u64,
+    minimum_allocation: u64,
     limit: u64,
 }
 
@@ -145,8 +147,17 @@ fn read_characteristics(text: &[u8]) -> Option<Characteristics> {
         *amount = digits::number(next_part(&mut rest, 15)?)?;
     }
     let limit = digits::number(rest)?;
-    let [offered, minimum, increment, maximum, _minimum_allocation] = amounts;
-    Some(Characteristics { execution, most_bids, offered, minimum, increment, maximum, limit })
+    let [offered, minimum, increment, maximum, minimum_allocation] = amounts;
+    Some(Characteristics {
+        execution,
+        most_bids,
+        offered,
+        minimum,
+        increment,
+        maximum,
+        minimum_allocation,
+        limit,
+    })
 }
 
 /// Takes a part of this width and the slash after it, or gives none where no slash stands there.
@@ -174,6 +185,7 @@ impl Characteristics {
             minimum: Amount(self.minimum),
             increment: Amount(self.increment),
             maximum: (self.maximum > 0).then_some(Amount(self.maximum)),
+            minimum_allocation: Amount(self.minimum_allocation),
             offer: Offer { side, amount: Amount(self.offered), limit: Rate(self.limit as u32) },
         }
     }

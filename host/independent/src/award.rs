@@ -37,7 +37,7 @@ pub enum Side {
 }
 
 /// What is shared among the bids.
-#[derive(Clone, Copy, Debug)]
+#[derive(Clone, Copy, Debug, PartialEq, Eq)]
 pub struct Offer {
     pub side: Side,
     pub amount: Amount,
@@ -55,7 +55,7 @@ pub struct PlacedBid {
 pub const POSITIONS: usize = 640;
 
 /// What allotting gives.
-#[derive(Clone, Debug)]
+#[derive(Clone, Debug, PartialEq, Eq)]
 pub struct Allotment {
     pub awards: [Amount; POSITIONS],
     pub marginal_rate: Option<Rate>,
@@ -89,7 +89,9 @@ impl Offer {
                 share(&mut allotment.awards, at_rate, left, total);
                 break;
             }
-            share(&mut allotment.awards, at_rate, total, total);
+            for placed in at_rate {
+                allotment.awards[placed.position] = placed.bid.amount;
+            }
             left -= total;
         }
         allotment

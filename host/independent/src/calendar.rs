@@ -39,6 +39,12 @@ impl Date {
         exists.then_some(Date((year * 10_000 + month * 100 + day) as u32))
     }
 
+    /// The number ddmmyyyy.
+    pub fn number(self) -> u64 {
+        let (year, month, day) = (self.0 / 10_000, self.0 / 100 % 100, self.0 % 100);
+        u64::from(day * 1_000_000 + month * 10_000 + year)
+    }
+
     /// The date that eight digits write, or none.
     pub fn of_text(text: &[u8]) -> Option<Date> {
         Date::of_number(digits::number(text)?)
@@ -52,6 +58,11 @@ impl Time {
         (hour < 24 && minute < 60 && second < 60).then_some(Time(number as u32))
     }
 
+    /// The number hhmmss.
+    pub fn number(self) -> u64 {
+        u64::from(self.0)
+    }
+
     /// The time that six digits write, or none.
     pub fn of_text(text: &[u8]) -> Option<Time> {
         Time::of_number(digits::number(text)?)
@@ -59,6 +70,11 @@ impl Time {
 }
 
 impl Moment {
+    /// The moment that the numbers ddmmyyyy and hhmmss stand for, or none.
+    pub fn of_numbers(date: u64, time: u64) -> Option<Moment> {
+        Some(Moment { date: Date::of_number(date)?, time: Time::of_number(time)? })
+    }
+
     /// The moment that a date and then a time write, fourteen bytes, or none.
     pub fn of_text(text: &[u8]) -> Option<Moment> {
         let (date, time) = text.split_at(8);
@@ -89,6 +105,8 @@ mod tests {
         }
         assert!(Date::of_number(112_032_012).is_none());
         assert_eq!(Date::of_number(1_012_012), Date::of_text(b"01012012"));
+        assert_eq!(Date::of_number(1_012_012).map(Date::number), Some(1_012_012));
+        assert!(Moment::of_numbers(u64::MAX, 0).is_none());
     }
 
     #[test]
@@ -100,6 +118,8 @@ mod tests {
             assert!(Time::of_text(text).is_none());
         }
         assert!(Time::of_number(1_000_000).is_none());
+        assert_eq!(Time::of_number(93_000).map(Time::number), Some(93_000));
+        assert!(Moment::of_numbers(1_012_012, (1 << 32) + 93_000).is_none());
     }
 
     #[test]

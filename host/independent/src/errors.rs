@@ -1,5 +1,7 @@
 //! The errors of an application, in the order in which they are collected.
 
+use crate::digits;
+
 /// An error, with its place in that order as its value.
 #[derive(Clone, Copy, Debug, PartialEq, Eq)]
 pub enum ApplicationError {
@@ -49,7 +51,10 @@ const TEXTS: [&[u8; 9]; 19] = [
 
 /// The last text where there are more errors than a reply shows.
 const MORE: &[u8; 9] = b"999 - 999";
-const MOST_SHOWN: u32 = 5;
+const MOST_SHOWN: usize = 5;
+
+/// The longest text that field 098 shows.
+pub const LONGEST_TEXT: usize = MOST_SHOWN * (MORE.len() + 1) - 1;
 
 /// A set of errors, one bit each.
 #[derive(Clone, Copy, Debug, Default, PartialEq, Eq)]
@@ -65,24 +70,39 @@ impl Errors {
         self.0 == 0
     }
 
-    /// Appends the errors as field 098 shows them.
-    pub fn push_text(&self, out: &mut Vec<u8>) {
-        let over = self.0.count_ones() > MOST_SHOWN;
-        let whole = if over { MOST_SHOWN - 1 } else { MOST_SHOWN };
+    pub fn count(&self) -> usize {
+        self.0.count_ones() as usize
+    }
+
+    /// The texts of all errors, in their order.
+    fn texts(self) -> impl Iterator<Item = &'static [u8; 9]> {
         let mut left = self.0;
-        for shown in 0..whole {
-            if left == 0 {
-                return;
-            }
-            if shown > 0 {
+        std::iter::from_fn(move || {
+            let text = TEXTS.get(left.trailing_zeros() as usize)?;
+            left &= left - 1;
+            Some(*text)
+        })
+    }
+
+    /// The codes of all errors, in their order.
+    pub fn codes(self) -> impl Iterator<Item = u64> {
+        self.texts().filter_map(|text| digits::number(&text[6..]))
+    }
+
+    /// The texts that field 098 shows, which a slash joins.
+    pub fn shown(self) -> impl Iterator<Item = &'static [u8; 9]> {
+        let over = self.count() > MOST_SHOWN;
+        let whole = if over { MOST_SHOWN - 1 } else { MOST_SHOWN };
+        self.texts().take(whole).chain(over.then_some(MORE))
+    }
+
+    /// Appends the errors as field 098 shows them.
+    pub fn push_text(self, out: &mut Vec<u8>) {
+        for (index, text) in self.shown().enumerate() {
+            if index > 0 {
                 out.push(b'/');
             }
-            out.extend_from_slice(TEXTS[left.trailing_zeros() as usize]);
-            left &= left - 1;
-        }
-        if over {
-            out.push(b'/');
-            out.extend_from_slice(MORE);
+            out.extend_from_slice(text);
         }
     }
 }
@@ -104,5 +124,14 @@ mod tests {
         assert_eq!(text(0b111111), format!("{}999 - 999", &five[..40]));
         assert_eq!(text(1 << 18), "601 - 302");
         assert_eq!(text(0), "");
+    }
+
+    #[test]
+    fn codes_are_the_numbers_of_the_texts() {
+        let codes = |bits| Errors(bits).codes().collect::<Vec<_>>();
+        assert_eq!(codes(0), []);
+        assert_eq!(codes(1 << 18), [302]);
+        assert_eq!(codes(0b111111), [900, 309, 300, 599, 521, 502]);
+        assert_eq!(codes((1 << 19) - 1).len(), 19);
     }
 }

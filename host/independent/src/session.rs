@@ -7,6 +7,7 @@ use crate::calendar::Moment;
 use crate::digits;
 use crate::envelope::{self, HEADER};
 use crate::refusal::Refusal;
+use crate::reply;
 use crate::tender::{Award, Reception, Tender};
 
 pub const ADMITTED: u8 = 0xa0;
@@ -66,7 +67,8 @@ impl Journal {
     fn receive(&mut self, contents: &[u8], lines: &mut Vec<u8>) {
         let Some(tender) = &mut self.tender else { return };
         let (clock, message) = contents.split_at(CLOCK_BYTES);
-        match tender.receive(message, Moment::of_text(clock)) {
+        let mut space = [0; reply::LONGEST];
+        match tender.receive(message, Moment::of_text(clock), &mut space) {
             Ok(reception) => push_reception(lines, clock, &reception),
             Err(refusal) => push_refusal(lines, refusal),
         }

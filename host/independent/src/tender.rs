@@ -7,14 +7,16 @@ use crate::calendar::{Moment, Time};
 use crate::digits;
 use crate::errors::{ApplicationError as E, Errors};
 use crate::refusal::Refusal;
+use crate::reply;
 use crate::rules;
 
 /// The most counterparties that are admitted.
 pub const MOST_CODES: usize = POSITIONS / PLACES;
 const MOST_CENTS: u128 = 999_999_999_999_999_999;
 
+/// Where a tender stands.
 #[derive(Clone, Copy, Debug, PartialEq, Eq)]
-enum State {
+pub enum State {
     Open,
     Closed,
     Announced,
@@ -22,19 +24,21 @@ enum State {
 }
 
 /// What the book holds for one counterparty.
-#[derive(Clone, Debug)]
-struct Holding {
-    code: u32,
-    time: Option<Time>,
-    bids: [Bid; PLACES],
+#[derive(Clone, Debug, PartialEq, Eq)]
+pub struct Holding {
+    pub code: u32,
+    pub time: Option<Time>,
+    pub bids: [Bid; PLACES],
 }
 
-/// An opened tender with its book.
-#[derive(Clone, Debug)]
+/// An opened tender with its book, which stands in rising order of the codes.
+///
+/// Its parts are public so that a comparison can set them as it sets those of another implementation.
+#[derive(Clone, Debug, PartialEq, Eq)]
 pub struct Tender {
-    terms: Terms,
-    state: State,
-    book: Vec<Holding>,
+    pub terms: Terms,
+    pub state: State,
+    pub book: Vec<Holding>,
 }
 
 /// What became of a message: it is accepted where there are no errors.
@@ -42,6 +46,8 @@ pub struct Tender {
 pub struct Reception<'a> {
     pub sender: &'a [u8],
     pub errors: Errors,
+    /// How many bytes the reply has.
+    pub length: usize,
 }
 
 /// An award above zero.
@@ -74,16 +80,24 @@ impl Tender {
         clock.ok_or(Refusal::ClockInvalid)
     }
 
-    /// Receives a message; a clock that is no date and time is none.
+    /// Receives a message and writes the reply at the start of the space, whose bytes past it stay;
+    /// a clock that is no date and time is none.
     pub fn receive<'a>(
         &mut self,
         message: &'a [u8],
         clock: Option<Moment>,
+        space: &mut [u8],
     ) -> Result<Reception<'a>, Refusal> {
         let received = self.open_at(clock)?;
+        Refusal::ReplySpaceShort.if_so(space.len() < reply::LONGEST)?;
         let application = Application::read(message)?;
         let errors = self.enter(&application, received);
-        Ok(Reception { sender: application.field(Field::Sender), errors })
+        let length = if errors.is_empty() {
+            reply::confirm(&application, received.time, space)
+        } else {
+            reply::send_back(message, errors, space)
+        };
+        Ok(Reception { sender: application.field(Field::Sender), errors, length })
     }
 
     /// Collects the application's errors and, where there are none, holds its time and bids.
@@ -113,9 +127,19 @@ impl Tender {
             errors.add_if(E::SenderNotDigits, true);
             return None;
         };
-        let position = self.book.binary_search_by_key(&(code as u32), |holding| holding.code).ok();
+        let position = self.position(code);
         errors.add_if(E::SenderNotAdmitted, position.is_none());
         position
+    }
+
+    /// Where the code stands in the book, or none where it is not admitted.
+    fn position(&self, code: u64) -> Option<usize> {
+        self.book.binary_search_by_key(&code, |holding| u64::from(holding.code)).ok()
+    }
+
+    /// What is held for a code, or none where it is not admitted.
+    pub fn held(&self, code: u64) -> Option<&Holding> {
+        self.position(code).map(|position| &self.book[position])
     }
 
     /// Closes the tender after its cut-off.
