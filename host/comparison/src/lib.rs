@@ -3,7 +3,9 @@
 #![deny(unsafe_code)]
 
 pub mod arguments;
+pub mod calls;
 pub mod damage;
+pub mod difference;
 pub mod interface;
 pub mod library;
 pub mod measure;

@@ -2,7 +2,6 @@
 
 pub mod comparison;
 pub mod damage;
-pub mod difference;
 pub mod generate;
 pub mod reading;
 pub mod space;

@@ -1,7 +1,7 @@
 //! Compares reading and writing of generated messages.
 
+use crate::difference::{hex, Difference};
 use crate::interface::{Independent, Interface};
-use crate::messages::difference::{hex, Difference};
 use crate::messages::tally::{Outcome, Tally};
 use crate::messages::{generate, reading, writing};
 use crate::random::Random;

@@ -1,8 +1,8 @@
 //! The comparison of the calls that read.
 
+use crate::difference::{same, Difference};
 use crate::interface::{Fields, Independent, Interface, NUMBERS};
 use crate::library::Library;
-use crate::messages::difference::{same, Difference};
 use crate::messages::tally::{Outcome, Tally, DIGIT_FIELDS};
 use crate::random::Random;
 use independent::application::{is_identifier, PLACES};

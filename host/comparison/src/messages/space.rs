@@ -1,8 +1,8 @@
 //! A space that a message is written to, with bytes around it that must stay.
 
+use crate::difference::{hex, same, Difference};
 use crate::interface::{Fields, Independent, Interface};
 use crate::library::Library;
-use crate::messages::difference::{hex, same, Difference};
 use independent::application::LENGTH;
 
 /// How many bytes before and after the space are watched.

@@ -1,8 +1,8 @@
 //! The comparison of the call that writes, and what a written message promises.
 
+use crate::difference::{hex, same, Difference};
 use crate::interface::{Fields, NUMBERS};
 use crate::library::Library;
-use crate::messages::difference::{hex, same, Difference};
 use crate::messages::generate::{Parts, WIDTHS};
 use crate::messages::reading::{fields, is_well_formed};
 use crate::messages::space::{write, Written};

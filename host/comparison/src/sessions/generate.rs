@@ -50,6 +50,15 @@ fn push_tender(random: &mut Random, session: &mut Session) {
 
 /// Announces the tender, sometimes after or instead of something that is refused.
 fn push_announcement(random: &mut Random, session: &mut Session, announcement: &Announcement) {
+    let message = announced(random, announcement);
+    session.field(0xa1, &message);
+    if message != announcement.write() && !random.one_in(4) {
+        session.announce(announcement);
+    }
+}
+
+/// An announcement's bytes, sometimes of one that is refused.
+pub fn announced(random: &mut Random, announcement: &Announcement) -> Vec<u8> {
     let mut refused = *announcement;
     let mut message = announcement.write();
     match random.below(16) {
@@ -64,10 +73,7 @@ fn push_announcement(random: &mut Random, session: &mut Session, announcement: &
         }
         _ => (),
     }
-    session.field(0xa1, &message);
-    if message != announcement.write() && !random.one_in(4) {
-        session.announce(announcement);
-    }
+    message
 }
 
 fn push_codes(random: &mut Random, session: &mut Session, codes: &[u64]) {
@@ -118,7 +124,7 @@ fn push_event(random: &mut Random, session: &mut Session, announcement: &Announc
 }
 
 /// A clock near the cut-off, rarely one that does not exist.
-fn clock(random: &mut Random, announcement: &Announcement) -> (u64, u64) {
+pub fn clock(random: &mut Random, announcement: &Announcement) -> (u64, u64) {
     let (day, cut_off) = (announcement.execution, announcement.cut_off);
     match random.below(40) {
         0..=2 => (day, seconds_away(cut_off, 1)),
@@ -135,9 +141,19 @@ fn clock(random: &mut Random, announcement: &Announcement) -> (u64, u64) {
 
 fn push_reception(random: &mut Random, session: &mut Session, plan: &Plan, planned: &Planned) {
     let (date, time) = clock(random, &plan.announcement);
+    let message = application(random, &plan.announcement, planned);
+    session.receive(date, time, &message);
+    if random.one_in(60) {
+        let clock = session.bytes.len() - message.len() - 14;
+        put_near(random, &mut session.bytes[clock..clock + 14]);
+    }
+}
+
+/// An application's bytes, sometimes with errors or damaged.
+pub fn application(random: &mut Random, announcement: &Announcement, planned: &Planned) -> Vec<u8> {
     let mut application = Draft {
-        date: plan.announcement.execution,
-        identifier: &plan.announcement.identifier,
+        date: announcement.execution,
+        identifier: &announcement.identifier,
         places: planned.places,
         name: random.pick(&NAMES),
         ..draft(planned.code, planned.time, &[])
@@ -153,9 +169,5 @@ fn push_reception(random: &mut Random, session: &mut Session, plan: &Plan, plann
         3 => spoil_places(random, &mut message),
         _ => (),
     }
-    session.receive(date, time, &message);
-    if random.one_in(60) {
-        let clock = session.bytes.len() - message.len() - 14;
-        put_near(random, &mut session.bytes[clock..clock + 14]);
-    }
+    message
 }

@@ -1,0 +1,170 @@
+//! Sequences of calls that aim at the boundaries of document 01's rules.
+
+use crate::calls::layout::AMOUNTS;
+use crate::calls::step::{Call, Step};
+use crate::calls::twist;
+use crate::random::Random;
+use crate::sessions::days::{day_after, seconds_away};
+use crate::sessions::generate::{announced, application, clock};
+use crate::sessions::plan::{plan, Plan, Planned};
+use independent::application::PLACES;
+use independent::award::POSITIONS;
+use independent::compose::Announcement;
+use independent::tender::Tender;
+
+/// The most eurocents that the bids of a book may have together.
+const MOST_CENTS: u64 = 999_999_999_999_999_999;
+/// Clocks that are no date and time, beyond what a log can have.
+const ODD_CLOCKS: [(u64, u64); 6] = [
+    (112_032_012, 103_000),
+    (12_032_012, 1_103_000),
+    (u64::MAX, u64::MAX),
+    ((1 << 32) + 12_032_012, 103_000),
+    (12_032_012, (1 << 32) + 103_000),
+    (1 << 63, 0),
+];
+
+/// A sequence under way.
+struct Sequence<'a> {
+    random: &'a mut Random,
+    steps: Vec<Step>,
+    /// The codes of the tender that was opened last.
+    codes: Vec<u32>,
+}
+
+/// The sequence with this seed.
+pub fn sequence(seed: u64) -> Vec<Step> {
+    let random = &mut Random::new(seed);
+    let mut sequence = Sequence { random, steps: Vec::new(), codes: Vec::new() };
+    if sequence.random.one_in(8) {
+        // The words hold no tender yet.
+        sequence.push_event(&Announcement::worked());
+    }
+    for _ in 0..sequence.random.pick(&[1, 1, 1, 2]) {
+        sequence.push_tender();
+    }
+    sequence.steps
+}
+
+impl Sequence<'_> {
+    /// Pushes a call, often with something else lent to it than what it needs.
+    fn push(&mut self, call: Call) {
+        let mut step = Step::new(call);
+        twist::lend(self.random, &mut step);
+        if let Some(damaged) = twist::damage(self.random, &step, &self.codes) {
+            self.steps.push(damaged);
+        }
+        if let Call::Open { codes, message } = &step.call {
+            if Tender::open(message, codes).is_ok() {
+                self.codes.clone_from(codes);
+            }
+        }
+        self.steps.push(step);
+    }
+
+    fn push_tender(&mut self) {
+        let plan = plan(self.random);
+        let codes: Vec<u32> = plan.codes.iter().map(|&code| code as u32).collect();
+        self.push_opening(&plan, &codes);
+        let between = 8 + 2 * plan.applications.len() as u64;
+        for planned in &plan.applications {
+            self.push_reception(&plan.announcement, planned);
+            if self.random.one_in(between) {
+                self.push_event(&plan.announcement);
+            }
+        }
+        self.push_end(&plan.announcement, codes.len());
+    }
+
+    /// Opens the tender, sometimes after openings that are refused.
+    fn push_opening(&mut self, plan: &Plan, codes: &[u32]) {
+        if self.random.one_in(6) {
+            let message = announced(self.random, &plan.announcement);
+            self.push(Call::Open { codes: codes.to_vec(), message });
+        }
+        let message = plan.announcement.write();
+        if self.random.one_in(10) {
+            let codes = twist::codes(self.random, codes);
+            self.push(Call::Open { codes, message: message.clone() });
+        }
+        self.push(Call::Open { codes: codes.to_vec(), message });
+    }
+
+    fn clock(&mut self, announcement: &Announcement) -> (u64, u64) {
+        if self.random.one_in(60) {
+            return self.random.pick(&ODD_CLOCKS);
+        }
+        clock(self.random, announcement)
+    }
+
+    fn push_reception(&mut self, announcement: &Announcement, planned: &Planned) {
+        let clock = self.clock(announcement);
+        let message = application(self.random, announcement, planned);
+        let space = twist::space(self.random);
+        self.push(Call::Receive { clock, message, space });
+    }
+
+    /// Closes, mostly a second after the cut-off, and allots, often with something between.
+    fn push_end(&mut self, announcement: &Announcement, codes: usize) {
+        let (day, cut_off) = (announcement.execution, announcement.cut_off);
+        if self.random.one_in(4) {
+            self.push(Call::Close { clock: (day, cut_off) });
+        }
+        let next = cut_off == 235_959 || self.random.one_in(4);
+        let after = (day_after(day), self.random.pick(&[0, cut_off]));
+        let clock = if next { after } else { (day, seconds_away(cut_off, 1)) };
+        self.push(Call::Close { clock });
+        if self.random.one_in(6) {
+            self.push_event(announcement);
+        }
+        if self.random.one_in(8) {
+            self.push_full_book(codes);
+        }
+        let places = twist::places(self.random);
+        self.push(Call::Allot { places });
+        // An announced tender is asked again.
+        for _ in 0..self.random.pick(&[0, 0, 1, 2]) {
+            self.push_event(announcement);
+        }
+    }
+
+    /// Allots a book with amounts in its words that no message can bring there.
+    fn push_full_book(&mut self, codes: usize) {
+        let places = (PLACES * codes).min(30);
+        let rest: u64 = 1 + self.random.below(1_000_000_000_000_000);
+        let mut amounts = vec![rest; places];
+        let others = rest * (places as u64 - 1);
+        amounts[self.random.index(places)] = MOST_CENTS - others;
+        let index = self.random.index(places);
+        match self.random.below(6) {
+            0 | 1 => amounts[index] += 1,
+            2 => amounts[index] = u64::MAX,
+            // Their sum is small where it is taken within 64 bits.
+            3 => amounts[..2].fill(1 << 63),
+            _ => (),
+        }
+        let mut step = Step::new(Call::Allot { places: POSITIONS });
+        let words = amounts.iter().enumerate();
+        step.sets = words.map(|(place, &amount)| (AMOUNTS + place, amount)).collect();
+        self.steps.push(step);
+    }
+
+    /// A call that a tender may refuse, or that only looks.
+    fn push_event(&mut self, announcement: &Announcement) {
+        let clock = self.clock(announcement);
+        let code = u64::from(self.codes.first().copied().unwrap_or(90_001));
+        let codes = self.codes.clone();
+        let call = match self.random.below(16) {
+            0..=2 => Call::Close { clock },
+            3 | 4 => Call::Revoke,
+            5..=7 => Call::Allot { places: twist::places(self.random) },
+            8 => Call::Receive { clock, message: Vec::new(), space: twist::space(self.random) },
+            9 => Call::Open { codes, message: Vec::new() },
+            10 => Call::State,
+            11 => Call::Terms,
+            12 => Call::Codes,
+            _ => Call::Held { code: code + self.random.pick(&[0, 0, 1, 2, 1 << 32]) },
+        };
+        self.push(call);
+    }
+}

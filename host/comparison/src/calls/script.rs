@@ -1,0 +1,85 @@
+//! Sequences of calls as scripts that a person can read, change and run again.
+//!
+//! One step stands on a line; blank lines and lines that start with # are comments. The steps are
+//! near those of host/compose:
+//!   admit CODE ..                  the admitted codes of the openings that follow
+//!   announce KEY VALUE ..          opens a tender with the worked example's announcement and the
+//!                                  keys' values: host/compose's keys, and letter, Y or N
+//!   open BYTES ..                  opens a tender with any announcement
+//!   apply DATE TIME CODE REFTIME RATE/AMOUNT .. KEY VALUE ..
+//!                                  receives an application: host/compose's keys
+//!   receive DATE TIME BYTES ..     receives any message
+//!   close DATE TIME, allot, revoke
+//!   state, terms, codes, held CODE what the calls tell that change nothing
+//! DATE and TIME are numbers, and need not be valid ones. BYTES are pairs of hexadecimal digits or a
+//! text in double quotes. A value that is digits is filled up with zeros, one in double quotes with
+//! blanks. Keys that each step may have after all others:
+//!   space N                        how many bytes the reply space has, 500 without the key
+//!   places N                       how many awards there is room for, 640 without the key
+//!   numbers N                      how many numbers the array has that is told numbers
+//!   words N                        how many words are lent, 1496 without the key
+//!   set WORD/VALUE                 sets a word before the call; a refused call puts it back. Word 0
+//!                                  is the form, 1 the state, 2 the number of codes; from 24 on stand
+//!                                  the codes and from 856 on the amounts, ten for each code
+
+mod keys;
+mod line;
+mod read;
+mod write;
+
+pub use read::steps;
+pub use write::text;
+
+/// The reply space of a step that does not say it.
+const SPACE: usize = 500;
+
+#[cfg(test)]
+mod tests {
+    use super::*;
+    use crate::calls::generate;
+
+    #[test]
+    fn a_written_script_reads_back() {
+        for seed in 0..2000 {
+            let sequence = generate::sequence(seed);
+            let script = text(&sequence);
+            assert_eq!(steps(&script).as_ref(), Ok(&sequence), "seed {seed}:\n{script}");
+        }
+    }
+
+    #[test]
+    fn a_worked_script_reads_as_it_says() {
+        let script = "\
+# The worked tender.
+admit 90001 90002
+announce offered 15000
+
+apply 12032012 103000 90001 100000 150000/10000 cro 7 space 417
+close 12032012 110001 words 1495 set 1/4
+held 90001 numbers 3
+";
+        assert_eq!(
+            text(&steps(script).unwrap()),
+            script.replace("# The worked tender.\n", "").replace("\n\n", "\n")
+        );
+    }
+
+    #[test]
+    fn a_mistake_is_told_with_its_line() {
+        for (script, told) in [
+            ("allot\nalot", "line 2: alot is not known"),
+            ("close 12032012", "line 1: a time is needed"),
+            ("close 1203201x 110000", "line 1: 1203201x is not a number"),
+            ("revoke now", "line 1: now is not a key of this step"),
+            ("revoke words", "line 1: words has no value"),
+            ("revoke words 1513", "line 1: words 1513 is more than 1512"),
+            ("revoke set 3/1", "line 1: word 3 cannot be set"),
+            ("receive 12032012 110000 0", "line 1: 0 is not pairs of hexadecimal digits"),
+            ("receive 12032012 110000 \"0", "line 1: a text has no end"),
+            ("announce most 123", "line 1: 123 does not fit most"),
+            ("apply 12032012 110000 1 2 3/4/5", "line 1: 3/4/5 is not RATE/AMOUNT"),
+        ] {
+            assert_eq!(steps(script), Err(told.to_string()));
+        }
+    }
+}

@@ -1,0 +1,142 @@
+//! Writes a script.
+
+use crate::calls::book::WORDS;
+use crate::calls::script::keys::{self, Key};
+use crate::calls::script::{read, SPACE};
+use crate::calls::step::{Call, Step};
+use crate::damage::fields_of;
+use independent::application::PLACES;
+use independent::award::POSITIONS;
+use independent::envelope::HEADER;
+
+/// The steps as a script.
+pub fn text(steps: &[Step]) -> String {
+    let mut lines = String::new();
+    let mut admitted: &[u32] = &[];
+    for step in steps {
+        if let Call::Open { codes, .. } = &step.call {
+            if codes != admitted {
+                let codes: Vec<_> = codes.iter().map(|code| format!(" {code:05}")).collect();
+                lines += &format!("admit{}\n", codes.concat());
+            }
+            admitted = codes;
+        }
+        lines += &format!("{}{}\n", call_text(&step.call), keys_text(step));
+    }
+    lines
+}
+
+fn call_text(call: &Call) -> String {
+    match call {
+        Call::Open { message, .. } => announcement_text(message),
+        Call::Receive { clock, message, .. } => reception_text(*clock, message),
+        Call::Close { clock } => format!("close {}", clock_text(*clock)),
+        Call::Held { code } => format!("held {code:05}"),
+        _ => call.kind().to_string(),
+    }
+}
+
+fn clock_text((date, time): (u64, u64)) -> String {
+    format!("{date:08} {time:06}")
+}
+
+/// The keys that every step may have, where they differ from what holds without them.
+fn keys_text(step: &Step) -> String {
+    let mut text = String::new();
+    let mut add = |key: &str, value: usize, without: usize| {
+        if value != without {
+            text += &format!(" {key} {value}");
+        }
+    };
+    match step.call {
+        Call::Receive { space, .. } => add("space", space, SPACE),
+        Call::Allot { places } => add("places", places, POSITIONS),
+        _ => (),
+    }
+    add("numbers", step.numbers, step.call.told());
+    add("words", step.words, WORDS);
+    for (word, value) in &step.sets {
+        text += &format!(" set {word}/{value}");
+    }
+    text
+}
+
+/// An announcement by its keys where they can give it, else by its bytes.
+fn announcement_text(message: &[u8]) -> String {
+    let by_keys = differing(message, &keys::announcement(), &keys::ANNOUNCEMENT)
+        .map(|keys| format!("announce{keys}"));
+    let is_exact = |line: &String| {
+        matches!(read::steps(line).as_deref(),
+            Ok([Step { call: Call::Open { message: read, .. }, .. }]) if read == message)
+    };
+    by_keys.filter(is_exact).unwrap_or_else(|| format!("open{}", bytes_text(message)))
+}
+
+/// A reception by the keys of its application where they can give it, else by its bytes.
+fn reception_text(clock: (u64, u64), message: &[u8]) -> String {
+    let clock = clock_text(clock);
+    let by_keys = application_text(message).map(|text| format!("apply {clock} {text}"));
+    let is_exact = |line: &String| {
+        matches!(read::steps(line).as_deref(),
+            Ok([Step { call: Call::Receive { message: read, .. }, .. }]) if read == message)
+    };
+    by_keys.filter(is_exact).unwrap_or_else(|| format!("receive {clock}{}", bytes_text(message)))
+}
+
+/// The keys whose values differ from those of the message, or none where one cannot be written.
+fn differing(message: &[u8], worked: &[u8], keys: &[Key]) -> Option<String> {
+    if message.len() != worked.len() {
+        return None;
+    }
+    let mut text = String::new();
+    for key in keys {
+        let bytes = key.start..key.start + key.width;
+        if message[bytes.clone()] != worked[bytes] {
+            text += &format!(" {} {}", key.name, key.value(message)?);
+        }
+    }
+    Some(text)
+}
+
+fn application_text(message: &[u8]) -> Option<String> {
+    let worked = keys::application();
+    let keys = differing(message, &worked, &keys::APPLICATION)?;
+    let is_zero = |index: &usize| {
+        let start = keys::place(*index).0.start;
+        message[start..start + 24] == worked[start..start + 24]
+    };
+    let filled = (0..PLACES).rev().find(|index| !is_zero(index)).map_or(0, |last| last + 1);
+    let mut text =
+        format!("{} {}", fixed(&keys::CODE, message)?, fixed(&keys::REFERENCE_TIME, message)?);
+    for index in 0..filled {
+        let (rate, amount) = keys::place(index);
+        text += &format!(" {}/{}", rate.value(message)?, amount.value(message)?);
+    }
+    Some(text + &keys)
+}
+
+/// The value as it stands, where it is digits.
+fn fixed(key: &Key, message: &[u8]) -> Option<String> {
+    let text = std::str::from_utf8(&message[key.start..key.start + key.width]).ok()?;
+    text.bytes().all(|byte| byte.is_ascii_digit()).then(|| text.to_string())
+}
+
+/// Any bytes, field by field as far as they have fields: heads in hexadecimal digits, texts as such.
+fn bytes_text(message: &[u8]) -> String {
+    let mut text = String::new();
+    for field in fields_of(message) {
+        let (head, contents) = field.split_at(HEADER.min(field.len()));
+        text += &format!(" {}", hexadecimal(head));
+        let is_text = contents.iter().all(|&byte| (b' '..=b'~').contains(&byte) && byte != b'"');
+        match std::str::from_utf8(contents) {
+            Ok("") => (),
+            Ok(contents) if is_text => text += &format!(" \"{contents}\""),
+            _ => text += &format!(" {}", hexadecimal(contents)),
+        }
+    }
+    text
+}
+
+fn hexadecimal(bytes: &[u8]) -> String {
+    bytes.iter().map(|byte| format!("{byte:02X}")).collect()
+}

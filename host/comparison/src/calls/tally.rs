@@ -1,0 +1,69 @@
+//! What the compared calls showed.
+
+use crate::calls::book::NO_TENDER;
+use crate::calls::run::Seen;
+use crate::calls::step::{Call, Step, KINDS};
+use std::collections::BTreeMap;
+
+/// Every error code of a message, in the order in which errors are collected.
+const ERRORS: [u64; 19] =
+    [900, 309, 300, 599, 521, 502, 522, 503, 908, 303, 901, 902, 903, 904, 905, 906, 907, 301, 302];
+/// The last refusal of a call on a tender.
+const LAST_REFUSAL: u64 = 16;
+
+/// How often each kind of call, each refusal and each error was seen.
+#[derive(Default)]
+pub struct Tally {
+    pub sequences: u64,
+    pub calls: u64,
+    counts: BTreeMap<String, u64>,
+}
+
+fn refusal_name(refusal: u64) -> String {
+    format!("refusal {refusal}")
+}
+
+fn error_name(code: u64) -> String {
+    format!("error {code}")
+}
+
+impl Tally {
+    /// Counts a call and what it gave.
+    pub fn count(&mut self, step: &Step, seen: &Seen) {
+        self.calls += 1;
+        self.add(step.call.kind().to_string());
+        let is_state = matches!(step.call, Call::State) && seen.result != NO_TENDER;
+        if seen.result != 0 && !is_state {
+            self.add(refusal_name(seen.result));
+        }
+        seen.errors.iter().for_each(|&code| self.add(error_name(code)));
+    }
+
+    fn add(&mut self, name: String) {
+        *self.counts.entry(name).or_default() += 1;
+    }
+
+    /// How often this was seen.
+    pub fn of(&self, name: &str) -> u64 {
+        self.counts.get(name).copied().unwrap_or(0)
+    }
+
+    /// The names of what no call showed.
+    pub fn missing(&self) -> Vec<String> {
+        all().into_iter().filter(|name| self.of(name) == 0).collect()
+    }
+
+    /// The counts in one line.
+    pub fn text(&self) -> String {
+        let totals = format!("sequences: {}, calls: {}", self.sequences, self.calls);
+        let counts = all().into_iter().map(|name| format!("{name}: {}", self.of(&name)));
+        std::iter::once(totals).chain(counts).collect::<Vec<_>>().join(", ")
+    }
+}
+
+/// The names of all kinds of call, refusals and errors.
+fn all() -> Vec<String> {
+    let kinds = KINDS.iter().map(|kind| kind.to_string());
+    let refusals = (1..=LAST_REFUSAL).chain([NO_TENDER]).map(refusal_name);
+    kinds.chain(refusals).chain(ERRORS.into_iter().map(error_name)).collect()
+}
