@@ -2,6 +2,10 @@
 
 pub mod book;
 pub mod comparison;
+#[cfg(test)]
+mod drawn;
+#[cfg(test)]
+mod faults;
 pub mod generate;
 pub mod independent_book;
 pub mod layout;
@@ -11,6 +15,7 @@ pub mod padded;
 pub mod reduce;
 pub mod run;
 pub mod script;
+pub mod simplify;
 pub mod step;
 pub mod tally;
 pub mod twist;
@@ -18,3 +23,62 @@ pub mod twist;
 /// The sequences that are compared where none are asked for.
 pub const DEFAULT_SEED: u64 = 20_120_312;
 pub const DEFAULT_COUNT: u64 = 20_000;
+
+#[cfg(test)]
+mod tests {
+    use super::comparison::Comparison;
+    use super::drawn::Drawn;
+    use super::faults::{Faulty, FAULTS};
+    use super::library_book::LibraryBook;
+    use super::*;
+
+    #[test]
+    fn the_sequences_show_every_call_refusal_and_error() {
+        let mut comparison = Comparison::<LibraryBook>::default();
+        if let Err(differs) = comparison.compare(DEFAULT_SEED, DEFAULT_COUNT / 5) {
+            panic!("{}", differs.script());
+        }
+        assert_eq!(comparison.tally.missing(), [""; 0]);
+    }
+
+    #[test]
+    fn the_sequences_draw_the_boundaries() {
+        let mut drawn = Drawn::default();
+        for seed in DEFAULT_SEED..DEFAULT_SEED + DEFAULT_COUNT / 10 {
+            drawn.count(&generate::sequence(seed));
+        }
+        assert_eq!(drawn.counts.len(), 31, "each boundary was looked for: {:?}", drawn.counts);
+        assert!(drawn.counts.values().all(|&count| count >= 20), "{:?}", drawn.counts);
+    }
+
+    #[test]
+    fn a_seed_always_makes_the_same_sequence() {
+        assert_eq!(generate::sequence(7), generate::sequence(7));
+        assert_ne!(generate::sequence(7), generate::sequence(8));
+    }
+
+    /// How many steps are left of the first sequence that shows the fault.
+    fn steps_for<const FAULT: usize>() -> usize {
+        let mut comparison = Comparison::<Faulty<FAULT>>::default();
+        let differs = comparison.compare(DEFAULT_SEED, 2000).err();
+        differs.unwrap_or_else(|| panic!("{} is not found", FAULTS[FAULT])).steps.len()
+    }
+
+    #[test]
+    fn every_fault_is_found_and_told_in_few_steps() {
+        let steps = [
+            steps_for::<0>(),
+            steps_for::<1>(),
+            steps_for::<2>(),
+            steps_for::<3>(),
+            steps_for::<4>(),
+            steps_for::<5>(),
+            steps_for::<6>(),
+            steps_for::<7>(),
+            steps_for::<8>(),
+            steps_for::<9>(),
+        ];
+        assert_eq!(steps.len(), FAULTS.len());
+        assert!(steps.iter().all(|&steps| steps <= 5), "{steps:?}");
+    }
+}

@@ -8,6 +8,7 @@
 
 use comparison::arguments::seed_and_count;
 use comparison::calls::comparison::{told, Comparison};
+use comparison::calls::library_book::LibraryBook;
 use comparison::calls::run::run;
 use comparison::calls::{script, DEFAULT_COUNT, DEFAULT_SEED};
 use std::process::ExitCode;
@@ -15,7 +16,7 @@ use std::{env, fs};
 
 /// Compares generated sequences; the default ones must show everything.
 fn compare(seed: u64, count: u64) -> ExitCode {
-    let mut comparison = Comparison::default();
+    let mut comparison = Comparison::<LibraryBook>::default();
     if let Err(differs) = comparison.compare(seed, count) {
         let script = differs.script();
         eprint!("compare-calls: seed {} differs\n{script}", differs.seed);
@@ -43,7 +44,7 @@ fn run_script(path: &str) -> Result<ExitCode, String> {
     let text = fs::read_to_string(path).map_err(|error| error.to_string())?;
     let steps = script::steps(&text)?;
     let mut number = 0;
-    let stopped = run(&steps, |step, seen| {
+    let stopped = run::<LibraryBook>(&steps, |step, seen| {
         number += 1;
         let errors: Vec<_> = seen.errors.iter().map(|code| format!(" {code}")).collect();
         println!("{number} {} gives {}{}", step.call.kind(), seen.result, errors.concat());

@@ -165,6 +165,16 @@ impl Sequence<'_> {
             12 => Call::Codes,
             _ => Call::Held { code: code + self.random.pick(&[0, 0, 1, 2, 1 << 32]) },
         };
+        if call != Call::Revoke {
+            return self.push(call);
+        }
+        // A revoked tender is asked again.
         self.push(call);
+        if self.random.one_in(4) {
+            self.push(Call::Revoke);
+        }
+        for _ in 0..self.random.below(3) {
+            self.push_event(announcement);
+        }
     }
 }

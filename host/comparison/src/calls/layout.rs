@@ -114,3 +114,26 @@ pub fn put_changed(words: &mut [u64], tender: &Tender) {
         }
     }
 }
+
+/// What the word of this index holds.
+pub fn name(index: isize) -> String {
+    let Some(index) = usize::try_from(index).ok().filter(|&index| index < WORDS) else {
+        return "beside the tender".to_string();
+    };
+    let of_code = |first| format!("of the code at index {}", index - first);
+    let of_place = |first| {
+        let position = index - first;
+        format!("of place {} of the code at index {}", 1 + position % PLACES, position / PLACES)
+    };
+    match index {
+        FORM => "the form".to_string(),
+        STATE => "the state".to_string(),
+        COUNT => "the number of codes".to_string(),
+        TERMS..CODES => format!("number {} of the terms", index - TERMS),
+        CODES..TIMES => format!("the code at index {}", index - CODES),
+        TIMES..FLAGS => format!("the time {}", of_code(TIMES)),
+        FLAGS..RATES => format!("whether a time is held {}", of_code(FLAGS)),
+        RATES..AMOUNTS => format!("the rate {}", of_place(RATES)),
+        _ => format!("the amount {}", of_place(AMOUNTS)),
+    }
+}

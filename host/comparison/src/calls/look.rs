@@ -3,7 +3,6 @@
 use crate::calls::book::{Book, CODES_NUMBERS, HELD_NUMBERS, NO_TENDER, OK, TERMS_NUMBERS};
 use crate::calls::independent_book::{codes_numbers, held_numbers};
 use crate::calls::layout;
-use crate::calls::library_book::LibraryBook;
 use crate::difference::{same, Difference};
 use independent::tender::Tender;
 
@@ -13,28 +12,28 @@ const BEFORE: u64 = 0xbeef_0000_0000_beef;
 const PAST: usize = 2;
 
 /// Compares the state, the terms, the codes and what is held for each code.
-pub fn compare(library: &[u64], expected: &[u64]) -> Result<(), Difference> {
+pub fn compare<L: Book>(library: &[u64], expected: &[u64]) -> Result<(), Difference> {
     let tender = layout::tender_of(expected);
     let state = tender.as_ref().map_or(NO_TENDER, |tender| tender.state as u64);
-    same(LibraryBook::state(library), state, || "the state after the call".to_string())?;
+    same(L::state(library), state, || "the state after the call".to_string())?;
     match tender {
-        Some(tender) => compare_tender(library, &tender),
-        None => compare_none(library),
+        Some(tender) => compare_tender::<L>(library, &tender),
+        None => compare_none::<L>(library),
     }
 }
 
-fn compare_tender(words: &[u64], tender: &Tender) -> Result<(), Difference> {
+fn compare_tender<L: Book>(words: &[u64], tender: &Tender) -> Result<(), Difference> {
     let terms = layout::terms_numbers(&tender.terms);
-    compare_told(terms, |told| LibraryBook::terms(words, told), || "the terms".to_string())?;
+    compare_told(terms, |told| L::terms(words, told), || "the terms".to_string())?;
     let codes = codes_numbers(tender);
-    compare_told(codes, |told| LibraryBook::codes(words, told), || "the codes".to_string())?;
+    compare_told(codes, |told| L::codes(words, told), || "the codes".to_string())?;
     let first = u64::from(tender.book[0].code);
     let last = u64::from(tender.book[tender.book.len() - 1].code);
     let admitted = tender.book.iter().map(|holding| u64::from(holding.code));
     for code in admitted.chain([last + 1, first + (1 << 32), u64::MAX]) {
         let held = held_numbers(tender, code);
         let what = || format!("what is held for {code:05}");
-        compare_told(held, |told| LibraryBook::held(words, code, told), what)?;
+        compare_told(held, |told| L::held(words, code, told), what)?;
     }
     Ok(())
 }
@@ -52,12 +51,12 @@ fn compare_told<const N: usize>(
     same(&told[N..N + PAST], &[BEFORE; PAST], || format!("the entries past {}", what()))
 }
 
-fn compare_none(words: &[u64]) -> Result<(), Difference> {
+fn compare_none<L: Book>(words: &[u64]) -> Result<(), Difference> {
     let mut told = [BEFORE; CODES_NUMBERS];
     let results = [
-        LibraryBook::terms(words, &mut told[..TERMS_NUMBERS]),
-        LibraryBook::codes(words, &mut told[..CODES_NUMBERS]),
-        LibraryBook::held(words, 90_001, &mut told[..HELD_NUMBERS]),
+        L::terms(words, &mut told[..TERMS_NUMBERS]),
+        L::codes(words, &mut told[..CODES_NUMBERS]),
+        L::held(words, 90_001, &mut told[..HELD_NUMBERS]),
     ];
     let what = || "terms, codes and what is held, of words without a tender".to_string();
     same(results, [NO_TENDER; 3], what)?;

@@ -31,6 +31,12 @@ impl<T: Copy + PartialEq> Padded<T> {
         self.first_mut(self.0.len() - 2 * MARGIN)
     }
 
+    /// At most so many elements from this index on.
+    pub fn from(&self, index: isize, count: usize) -> &[T] {
+        let start = (index + MARGIN as isize) as usize;
+        &self.0[start..self.0.len().min(start + count)]
+    }
+
     /// The first element that is another one than in the other, with its index from the first
     /// element that is lent, and both values.
     pub fn differs(&self, other: &Padded<T>) -> Option<(isize, T, T)> {

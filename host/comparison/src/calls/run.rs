@@ -1,13 +1,16 @@
 //! Makes calls on the library and on the independent implementation, and compares all that they do.
 
-use crate::calls::book::{OK, WORDS};
+use crate::calls::book::{Book, OK, WORDS};
 use crate::calls::independent_book::IndependentBook;
-use crate::calls::library_book::LibraryBook;
+use crate::calls::layout;
 use crate::calls::look;
 use crate::calls::padded::{self, Padded};
 use crate::calls::step::{Call, Given, Step};
 use crate::difference::{hex, same, Difference};
 use std::fmt::Debug;
+
+/// How many bytes of a space are shown from the first that differs on.
+const SHOWN: usize = 24;
 
 /// A sequence of calls under way: the words of both implementations.
 pub struct Run {
@@ -29,10 +32,10 @@ pub struct Stop {
 }
 
 /// Runs a sequence from words that hold no tender, and hands on what each of its calls gave.
-pub fn run(steps: &[Step], mut see: impl FnMut(&Step, Seen)) -> Result<(), Stop> {
+pub fn run<L: Book>(steps: &[Step], mut see: impl FnMut(&Step, Seen)) -> Result<(), Stop> {
     let mut run = Run::new();
     for (index, step) in steps.iter().enumerate() {
-        match run.take(step) {
+        match run.take::<L>(step) {
             Ok(seen) => see(step, seen),
             Err(difference) => return Err(Stop { index, difference }),
         }
@@ -46,25 +49,24 @@ impl Run {
     }
 
     /// Makes one call by both.
-    fn take(&mut self, step: &Step) -> Result<Seen, Difference> {
+    fn take<L: Book>(&mut self, step: &Step) -> Result<Seen, Difference> {
         let before = self.library.clone();
         for words in [&mut self.library, &mut self.expected] {
             step.sets.iter().for_each(|&(word, value)| words.all_mut()[word] = value);
         }
         let lent = self.library.clone();
-        let library = step.call::<LibraryBook>(&mut self.library);
+        let library = step.call::<L>(&mut self.library);
         let expected = step.call::<IndependentBook>(&mut self.expected);
         same(library.result, expected.result, || "what the call returns".to_string())?;
         compare_buffers(&library, &expected)?;
-        same_elements("a word of the tender", &self.library, &self.expected)?;
         if step.is_refused(expected.result) {
             compare_buffers(&library, &Given { result: library.result, ..step.lent() })?;
-            same_elements("a word, which must stay", &self.library, &lent)?;
+            same_words("must stay", &self.library, &lent)?;
             self.library = before.clone();
             self.expected = before;
         }
-        look::compare(self.library.first(WORDS), self.expected.first(WORDS))?;
-        same_elements("a word after it was looked at", &self.library, &self.expected)?;
+        look::compare::<L>(self.library.first(WORDS), self.expected.first(WORDS))?;
+        same_words("after the call", &self.library, &self.expected)?;
         Ok(Seen { result: expected.result, errors: errors_of(step, &expected) })
     }
 }
@@ -72,10 +74,11 @@ impl Run {
 fn compare_buffers(library: &Given, expected: &Given) -> Result<(), Difference> {
     same_elements("a number of the array", &library.told, &expected.told)?;
     same_elements("an award", &library.awards, &expected.awards)?;
-    same_elements("a byte of the space", &library.space, &expected.space).map_err(|mut found| {
-        found.library += &format!(", the space is {}", hex(library.space.all()));
-        found.expected += &format!(", the space is {}", hex(expected.space.all()));
-        found
+    let Some((index, _, _)) = library.space.differs(&expected.space) else { return Ok(()) };
+    Err(Difference {
+        call: format!("the bytes of the space from index {index} on"),
+        library: hex(library.space.from(index, SHOWN)),
+        expected: hex(expected.space.from(index, SHOWN)),
     })
 }
 
@@ -87,6 +90,12 @@ fn same_elements<T: Copy + PartialEq + Debug>(
 ) -> Result<(), Difference> {
     let Some((index, own, others)) = library.differs(expected) else { return Ok(()) };
     same(own, others, || format!("{what}, index {index}"))
+}
+
+/// Nothing where all words are equal.
+fn same_words(when: &str, library: &Padded<u64>, expected: &Padded<u64>) -> Result<(), Difference> {
+    let Some((index, own, others)) = library.differs(expected) else { return Ok(()) };
+    same(own, others, || format!("word {index}, {}, {when}", layout::name(index)))
 }
 
 fn errors_of(step: &Step, given: &Given) -> Vec<u64> {

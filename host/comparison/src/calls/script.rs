@@ -22,7 +22,7 @@
 //!                                  is the form, 1 the state, 2 the number of codes; from 24 on stand
 //!                                  the codes and from 856 on the amounts, ten for each code
 
-mod keys;
+pub mod keys;
 mod line;
 mod read;
 mod write;
@@ -31,7 +31,7 @@ pub use read::steps;
 pub use write::text;
 
 /// The reply space of a step that does not say it.
-const SPACE: usize = 500;
+pub const SPACE: usize = 500;
 
 #[cfg(test)]
 mod tests {

@@ -48,6 +48,10 @@ pub const APPLICATION: [Key; 7] = [
     key("name", 324, 15),
 ];
 
+/// The keys whose digits are written with the zeros before them.
+const WHOLE: [&str; 9] =
+    ["sender", "recipient", "date", "time", "execution", "spot", "forward", "cutoff", "name"];
+
 pub const CODE: Key = key("code", 9, 5);
 pub const REFERENCE_TIME: Key = key("reference time", 50, 6);
 
@@ -87,13 +91,19 @@ impl Key {
     pub fn value(&self, message: &[u8]) -> Option<String> {
         let text = std::str::from_utf8(&message[self.start..self.start + self.width]).ok()?;
         if text.bytes().all(|byte| byte.is_ascii_digit()) {
-            let number = text.trim_start_matches('0');
+            let is_whole = WHOLE.contains(&self.name);
+            let number = if is_whole { text } else { text.trim_start_matches('0') };
             return Some(if number.is_empty() { "0" } else { number }.to_string());
         }
         let is_written = text.bytes().all(|byte| (b' '..=b'~').contains(&byte) && byte != b'"');
         is_written
             .then(|| if text.contains(' ') { format!("\"{text}\"") } else { text.to_string() })
     }
+}
+
+/// A place with its rate, its slash and its amount.
+pub fn whole_place(index: usize) -> Key {
+    key("place", 81 + 24 * index, 24)
 }
 
 /// Puts a bid, RATE/AMOUNT, at a place of an application.

@@ -127,14 +127,20 @@ fn bytes_text(message: &[u8]) -> String {
     for field in fields_of(message) {
         let (head, contents) = field.split_at(HEADER.min(field.len()));
         text += &format!(" {}", hexadecimal(head));
-        let is_text = contents.iter().all(|&byte| (b' '..=b'~').contains(&byte) && byte != b'"');
-        match std::str::from_utf8(contents) {
-            Ok("") => (),
-            Ok(contents) if is_text => text += &format!(" \"{contents}\""),
-            _ => text += &format!(" {}", hexadecimal(contents)),
+        // The places of an application have 24 bytes each, and no other field is longer than these.
+        for part in contents.chunks(if contents.len() == 240 { 24 } else { usize::MAX }) {
+            text += &part_text(part);
         }
     }
     text
+}
+
+fn part_text(part: &[u8]) -> String {
+    let is_text = part.iter().all(|&byte| (b' '..=b'~').contains(&byte) && byte != b'"');
+    match std::str::from_utf8(part) {
+        Ok(text) if is_text => format!(" \"{text}\""),
+        _ => format!(" {}", hexadecimal(part)),
+    }
 }
 
 fn hexadecimal(bytes: &[u8]) -> String {

@@ -1,0 +1,121 @@
+//! What the sequences must draw, for a book may be wrong just there.
+
+use crate::calls::book::WORDS;
+use crate::calls::independent_book::IndependentBook;
+use crate::calls::layout::{self, AMOUNTS, CODES, COUNT, FORM, STATE};
+use crate::calls::padded::{self, Padded};
+use crate::calls::step::{Call, Step};
+use crate::sessions::days::{day_after, day_before, seconds_away};
+use independent::application::Application;
+use independent::award::{Side, POSITIONS};
+use independent::tender::{State, Tender};
+use std::collections::BTreeMap;
+
+/// How often each boundary was drawn.
+#[derive(Default)]
+pub struct Drawn {
+    pub counts: BTreeMap<&'static str, u64>,
+}
+
+impl Drawn {
+    fn add(&mut self, what: &'static str, is_so: bool) {
+        *self.counts.entry(what).or_default() += u64::from(is_so);
+    }
+
+    /// Counts what the steps of a sequence draw.
+    pub fn count(&mut self, steps: &[Step]) {
+        let mut words = padded::numbers(WORDS);
+        for step in steps {
+            let before = words.clone();
+            step.sets.iter().for_each(|&(word, value)| words.all_mut()[word] = value);
+            self.count_lent(step);
+            let tender = layout::tender_of(before.first(WORDS));
+            let given = step.call::<IndependentBook>(&mut words);
+            if let Some(tender) = tender {
+                self.count_call(step, &tender, given.result, &given.awards);
+            }
+            if step.is_refused(given.result) {
+                words = before;
+            }
+        }
+    }
+
+    /// Counts arrays, words and damage.
+    fn count_lent(&mut self, step: &Step) {
+        let set = |first: usize, last: usize| {
+            step.sets.iter().any(|&(word, _)| (first..=last).contains(&word))
+        };
+        self.add("fewer words", step.words < WORDS);
+        self.add("one word fewer", step.words == WORDS - 1);
+        self.add("more words", step.words > WORDS);
+        self.add("another form", set(FORM, FORM));
+        self.add("another state", set(STATE, STATE));
+        self.add("another count", set(COUNT, COUNT));
+        self.add("codes that do not rise", set(CODES, CODES + 63));
+        self.add("amounts in the words", set(AMOUNTS, AMOUNTS + POSITIONS - 1));
+        self.add("an array that is short", step.numbers < step.call.told());
+        self.add("an array that is long", step.numbers > step.call.told());
+    }
+
+    fn count_call(&mut self, step: &Step, tender: &Tender, result: u64, awards: &Padded<u64>) {
+        match &step.call {
+            Call::Receive { clock, message, space } => {
+                self.add("a space of 417", *space == 417);
+                self.add("a space of 418", *space == 418);
+                self.add("a space under 59", *space < 59);
+                self.count_clock(*clock, tender);
+                self.count_times(message, tender);
+            }
+            Call::Allot { places } => {
+                self.add("room for fewer awards", *places < POSITIONS);
+                self.add("announced and allotted again", tender.state == State::Announced);
+                if result == 0 && *places >= POSITIONS {
+                    self.count_awards(tender, &awards.all()[..POSITIONS]);
+                }
+            }
+            Call::Revoke => self.add("revoked again", tender.state == State::Revoked),
+            Call::Open { .. } => {
+                self.add("a refused opening over a tender", result != 0);
+                self.add("an opening over a tender", result == 0);
+            }
+            _ => (),
+        }
+    }
+
+    fn count_awards(&mut self, tender: &Tender, awards: &[u64]) {
+        let offer = tender.terms.offer;
+        let given: u64 = awards.iter().sum();
+        self.add("all that is offered is given", given == offer.amount.0);
+        self.add("less than is offered is given", given > 0 && given < offer.amount.0);
+        self.add("LA allotted", offer.side == Side::Collects);
+        self.add("LP allotted", offer.side == Side::Invests);
+        let bids = || tender.book.iter().flat_map(|holding| holding.bids);
+        let at_limit = bids().any(|bid| bid.is_filled() && bid.rate == offer.limit);
+        self.add("a bid at the limit rate", at_limit);
+        let is_out = bids().any(|bid| bid.is_filled() && !offer.is_in(bid.rate));
+        self.add("a bid beyond the limit rate", is_out);
+    }
+
+    fn count_clock(&mut self, clock: (u64, u64), tender: &Tender) {
+        let (day, time) = (tender.terms.execution.number(), tender.terms.cut_off.time.number());
+        self.add("the cut-off second", clock == (day, time));
+        self.add("the second after", clock == (day, seconds_away(time, 1)) && time < 235_959);
+        self.add("the day before", clock.0 == day_before(day));
+        self.add("the day after", clock.0 == day_after(day));
+    }
+
+    /// Counts reference times beside the one that is held.
+    fn count_times(&mut self, message: &[u8], tender: &Tender) {
+        let Ok(application) = Application::read(message) else { return };
+        let number = |field| application.number(field);
+        let code = number(independent::application::Field::Sender);
+        let time = number(independent::application::Field::ReferenceTime);
+        let holding = code.and_then(|code| tender.held(code));
+        let held = holding.and_then(|holding| holding.time).map(|time| time.number());
+        self.add("an equal reference time", held.is_some() && time == held);
+        self.add("a falling reference time", held.is_some() && time < held);
+        let has_bids = holding.is_some_and(|holding| holding.bids[0].is_filled());
+        let zero = application.places().is_some_and(|bids| bids.iter().all(|bid| !bid.is_filled()));
+        self.add("a cancellation of bids", has_bids && zero && time > held);
+    }
+}

@@ -1,0 +1,121 @@
+//! A book with one fault, to see that the comparison finds it.
+
+use crate::calls::book::{Book, NO_TENDER, OK, WORDS};
+use crate::calls::independent_book::IndependentBook as Right;
+use crate::calls::layout::{self, STATE};
+
+/// The faults, by their numbers.
+pub const FAULTS: [&str; 10] = [
+    "a byte of a confirmation is wrong",
+    "a byte past a reply changes",
+    "the time of an application with an error is held",
+    "a cent goes to the last bid of a rate",
+    "the marginal rate is told where there is none",
+    "a refused call tells a number",
+    "a refused closing closes",
+    "the state is told of words that hold no tender",
+    "a word past the tender changes",
+    "a short array is told nothing",
+];
+
+/// A book with the fault of this number.
+pub struct Faulty<const FAULT: usize>;
+
+/// Holds the time of the message's reference for its sender, whatever became of it.
+fn hold_time(words: &mut [u64], message: &[u8]) {
+    let number = |start: usize, end: usize| -> Option<u64> {
+        std::str::from_utf8(&message[start..end]).ok()?.parse().ok()
+    };
+    let Some(mut tender) = layout::tender_of(words) else { return };
+    let (Some(code), Some(time)) = (number(9, 14), number(50, 56)) else { return };
+    let time = independent::calendar::Time::of_number(time);
+    for holding in tender.book.iter_mut().filter(|holding| u64::from(holding.code) == code) {
+        holding.time = holding.time.max(time);
+    }
+    layout::put_changed(words, &tender);
+}
+
+/// Takes a cent from the first award that a rate's last bid can have it from.
+fn move_cent(awards: &mut [u64]) {
+    let given: Vec<usize> = (0..awards.len()).filter(|&index| awards[index] > 1).collect();
+    if let [first, .., last] = given[..] {
+        if awards[first] == awards[last] + 1 {
+            awards.swap(first, last);
+        }
+    }
+}
+
+impl<const FAULT: usize> Book for Faulty<FAULT> {
+    fn open(words: &mut [u64], message: &[u8], codes: &[u32]) -> u64 {
+        let result = Right::open(words, message, codes);
+        if FAULT == 8 && words.len() > WORDS && result == OK {
+            words[WORDS] = 0;
+        }
+        result
+    }
+
+    fn receive(
+        words: &mut [u64],
+        message: &[u8],
+        clock: (u64, u64),
+        space: &mut [u8],
+        told: &mut [u64],
+    ) -> u64 {
+        let mut all = [0; 18];
+        let result = Right::receive(words, message, clock, space, &mut all);
+        let length = all[0] as usize;
+        let count = told.len().min(all.len());
+        if result == OK && !(FAULT == 9 && told.len() < all.len()) {
+            told[..count].copy_from_slice(&all[..count]);
+        }
+        match FAULT {
+            0 if result == OK && all[1] == 0 => space[24] ^= 1,
+            1 if result == OK && length < space.len() => space[length] ^= 1,
+            2 if result == OK => hold_time(words, message),
+            5 if result != OK && count > 0 => told[0] = 0,
+            _ => (),
+        }
+        result
+    }
+
+    fn close(words: &mut [u64], clock: (u64, u64)) -> u64 {
+        let result = Right::close(words, clock);
+        if FAULT == 6 && result == 13 {
+            words[STATE] = 1;
+        }
+        result
+    }
+
+    fn allot(words: &mut [u64], awards: &mut [u64], told: &mut [u64]) -> u64 {
+        let result = Right::allot(words, awards, told);
+        match FAULT {
+            3 if result == OK => move_cent(awards),
+            4 if result == OK && told.len() > 1 => told[0] = 1,
+            _ => (),
+        }
+        result
+    }
+
+    fn revoke(words: &mut [u64]) -> u64 {
+        Right::revoke(words)
+    }
+
+    fn state(words: &[u64]) -> u64 {
+        match Right::state(words) {
+            NO_TENDER if FAULT == 7 && words.len() > STATE && words[STATE] < 4 => words[STATE],
+            state => state,
+        }
+    }
+
+    fn terms(words: &[u64], told: &mut [u64]) -> u64 {
+        Right::terms(words, told)
+    }
+
+    fn codes(words: &[u64], told: &mut [u64]) -> u64 {
+        Right::codes(words, told)
+    }
+
+    fn held(words: &[u64], code: u64, told: &mut [u64]) -> u64 {
+        Right::held(words, code, told)
+    }
+}

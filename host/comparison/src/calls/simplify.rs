@@ -1,0 +1,100 @@
+//! Makes the steps of a sequence simpler where its difference stays: fewer codes, bids and keys.
+
+use crate::calls::book::{Book, WORDS};
+use crate::calls::reduce::difference;
+use crate::calls::script::keys::{self, Key};
+use crate::calls::script::SPACE;
+use crate::calls::step::{Call, Step};
+use independent::application::PLACES;
+use independent::award::POSITIONS;
+
+/// The sequence with each step as simple as its difference allows.
+pub fn simplified<L: Book>(steps: &[Step]) -> Vec<Step> {
+    let mut steps = steps.to_vec();
+    let mut index = 0;
+    while index < steps.len() {
+        let simpler = simpler(&steps[index]).into_iter().map(|step| {
+            let mut steps = steps.clone();
+            steps[index] = step;
+            steps
+        });
+        let found = simpler.into_iter().find(|steps| difference::<L>(steps).is_some());
+        match found {
+            Some(simpler) => steps = simpler,
+            None => index += 1,
+        }
+    }
+    steps
+}
+
+/// The step made simpler in one way after another.
+fn simpler(step: &Step) -> Vec<Step> {
+    let mut steps = Vec::new();
+    let mut add = |simpler: Step| {
+        if simpler != *step {
+            steps.push(simpler);
+        }
+    };
+    add(Step { words: WORDS, ..step.clone() });
+    add(Step { numbers: step.call.told(), ..step.clone() });
+    add(Step { sets: Vec::new(), ..step.clone() });
+    for index in 0..step.sets.len() {
+        let mut fewer = step.clone();
+        fewer.sets.remove(index);
+        add(fewer);
+    }
+    for call in simpler_calls(&step.call) {
+        add(Step { call, ..step.clone() });
+    }
+    steps
+}
+
+fn simpler_calls(call: &Call) -> Vec<Call> {
+    match call {
+        Call::Open { codes, message } => {
+            let fewer = fewer_codes(codes).into_iter();
+            let fewer = fewer.map(|codes| Call::Open { codes, message: message.clone() });
+            let messages = nearer(message, &keys::announcement(), &keys::ANNOUNCEMENT).into_iter();
+            let messages = messages.map(|message| Call::Open { codes: codes.clone(), message });
+            fewer.chain(messages).collect()
+        }
+        Call::Receive { clock, message, space } => {
+            let with = |message, space| Call::Receive { clock: *clock, message, space };
+            let messages = nearer(message, &keys::application(), &application_keys()).into_iter();
+            let messages = messages.map(|message| with(message, *space));
+            messages.chain([with(message.clone(), SPACE)]).collect()
+        }
+        Call::Allot { .. } => vec![Call::Allot { places: POSITIONS }],
+        _ => Vec::new(),
+    }
+}
+
+/// The keys of an application and those of its places.
+fn application_keys() -> Vec<Key> {
+    let places = (0..PLACES).rev().map(keys::whole_place);
+    keys::APPLICATION.into_iter().chain(places).collect()
+}
+
+/// Either half of the codes, and the codes without each of them.
+fn fewer_codes(codes: &[u32]) -> Vec<Vec<u32>> {
+    let (first, second) = codes.split_at(codes.len() / 2);
+    let mut lists = vec![first.to_vec(), second.to_vec()];
+    for index in 0..codes.len() {
+        lists.push([&codes[..index], &codes[index + 1..]].concat());
+    }
+    lists
+}
+
+/// The message with the worked example's value for each of the keys.
+fn nearer(message: &[u8], worked: &[u8], keys: &[Key]) -> Vec<Vec<u8>> {
+    if message.len() != worked.len() {
+        return Vec::new();
+    }
+    let put = |key: &Key| {
+        let mut nearer = message.to_vec();
+        let bytes = key.start..key.start + key.width;
+        nearer[bytes.clone()].copy_from_slice(&worked[bytes]);
+        nearer
+    };
+    keys.iter().map(put).collect()
+}
