@@ -1,10 +1,10 @@
 //! The OPTES tender book and its session log, written from document 01 and the reading of its open
 //! points in docs/DECISIONS.md, without a look at the Rattle sources.
 //!
-//! It shares no line with the proved crates, so that the two can be compared. `tender` has the calls
-//! of a tender, from opening to allotting, `session` logs whole sessions by them, `application` reads
-//! and writes a 6G1, `interface` does so through the calls that a host in C has, `compose` makes
-//! sessions for tests.
+//! It shares no line with the proved crates, so that the two can be compared. `tender` has the
+//! calls of a tender, from opening to allotting, `session` logs whole sessions by them,
+//! `application` reads and writes a 6G1, `interface` does so through the calls that a host in C
+//! has, `compose` makes sessions for tests.
 #![forbid(unsafe_code)]
 
 pub mod announcement;

@@ -33,7 +33,7 @@ pub struct Holding {
 
 /// An opened tender with its book, which stands in rising order of the codes.
 ///
-/// Its parts are public so that a comparison can set them as it sets those of another implementation.
+/// Its parts are public so that a comparison can set them as it sets those of another one.
 #[derive(Clone, Debug, PartialEq, Eq)]
 pub struct Tender {
     pub terms: Terms,

@@ -78,7 +78,7 @@ impl Sequence<'_> {
 
     /// Opens the tender, sometimes after openings that are refused.
     fn push_opening(&mut self, plan: &Plan, codes: &[u32]) {
-        if self.random.one_in(6) {
+        for _ in 0..self.random.pick(&[0, 0, 1, 2]) {
             let message = announced(self.random, &plan.announcement);
             self.push(Call::Open { codes: codes.to_vec(), message });
         }
@@ -101,7 +101,13 @@ impl Sequence<'_> {
         let clock = self.clock(announcement);
         let message = application(self.random, announcement, planned);
         let space = twist::space(self.random);
-        self.push(Call::Receive { clock, message, space });
+        if space < twist::LEAST_SPACE && !self.random.one_in(4) {
+            // What was refused for its space alone comes again.
+            self.push(Call::Receive { clock, message: message.clone(), space });
+            self.push(Call::Receive { clock, message, space: twist::LEAST_SPACE });
+        } else {
+            self.push(Call::Receive { clock, message, space });
+        }
     }
 
     /// Closes, mostly a second after the cut-off, and allots, often with something between.

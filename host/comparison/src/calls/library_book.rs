@@ -1,7 +1,7 @@
 //! The library's calls of a tender, as include/optes_book.h declares them, on slices.
 //!
-//! A slice is never null and holds as many elements as its length says, nothing writes it while it is
-//! lent, and a slice that is lent for writing overlaps no other: all that the header asks of a caller.
+//! A slice is never null and holds as many elements as its length says, nothing writes it while it
+//! is lent, and a slice that is lent for writing overlaps no other: all that the header asks.
 #![allow(unsafe_code)]
 
 use crate::calls::book::Book;

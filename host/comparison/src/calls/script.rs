@@ -11,16 +11,17 @@
 //!   receive DATE TIME BYTES ..     receives any message
 //!   close DATE TIME, allot, revoke
 //!   state, terms, codes, held CODE what the calls tell that change nothing
-//! DATE and TIME are numbers, and need not be valid ones. BYTES are pairs of hexadecimal digits or a
-//! text in double quotes. A value that is digits is filled up with zeros, one in double quotes with
-//! blanks. Keys that each step may have after all others:
+//! DATE and TIME are numbers, and need not be valid ones. BYTES are pairs of hexadecimal digits or
+//! a text in double quotes. A value that is digits is filled up with zeros, one in double quotes
+//! with blanks. Keys that each step may have after all others:
 //!   space N                        how many bytes the reply space has, 500 without the key
 //!   places N                       how many awards there is room for, 640 without the key
 //!   numbers N                      how many numbers the array has that is told numbers
 //!   words N                        how many words are lent, 1496 without the key
-//!   set WORD/VALUE                 sets a word before the call; a refused call puts it back. Word 0
-//!                                  is the form, 1 the state, 2 the number of codes; from 24 on stand
-//!                                  the codes and from 856 on the amounts, ten for each code
+//!   set WORD/VALUE                 sets a word before the call, and puts it back after a refused
+//!                                  one. Word 0 is the form, 1 the state, 2 the number of codes;
+//!                                  from 24 on stand the codes and from 856 on the amounts, ten for
+//!                                  each code
 
 pub mod keys;
 mod line;

@@ -8,7 +8,7 @@ use crate::random::Random;
 use independent::award::POSITIONS;
 
 /// The least reply space.
-const LEAST_SPACE: usize = 418;
+pub const LEAST_SPACE: usize = 418;
 
 /// A reply space, mostly long enough.
 pub fn space(random: &mut Random) -> usize {

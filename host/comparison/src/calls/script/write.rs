@@ -121,7 +121,7 @@ fn fixed(key: &Key, message: &[u8]) -> Option<String> {
     text.bytes().all(|byte| byte.is_ascii_digit()).then(|| text.to_string())
 }
 
-/// Any bytes, field by field as far as they have fields: heads in hexadecimal digits, texts as such.
+/// Any bytes, field by field as far as they have fields: heads in hexadecimal digits, then texts.
 fn bytes_text(message: &[u8]) -> String {
     let mut text = String::new();
     for field in fields_of(message) {
