@@ -29,7 +29,9 @@ mod tests {
     use super::comparison::Comparison;
     use super::drawn::Drawn;
     use super::faults::{Faulty, FAULTS};
+    use super::independent_book::IndependentBook;
     use super::library_book::LibraryBook;
+    use super::reduce::difference;
     use super::*;
 
     #[test]
@@ -57,11 +59,17 @@ mod tests {
         assert_ne!(generate::sequence(7), generate::sequence(8));
     }
 
-    /// How many steps are left of the first sequence that shows the fault.
+    /// How many steps are left of the first sequence that shows the fault; its script shows it, too.
     fn steps_for<const FAULT: usize>() -> usize {
+        let fault = FAULTS[FAULT];
         let mut comparison = Comparison::<Faulty<FAULT>>::default();
-        let differs = comparison.compare(DEFAULT_SEED, 2000).err();
-        differs.unwrap_or_else(|| panic!("{} is not found", FAULTS[FAULT])).steps.len()
+        let Err(differs) = comparison.compare(DEFAULT_SEED, 2000) else {
+            panic!("{fault}: not found")
+        };
+        let script = script::steps(&differs.script()).expect("the script can be read");
+        assert!(difference::<Faulty<FAULT>>(&script).is_some(), "{fault}: not in the script");
+        assert!(difference::<IndependentBook>(&script).is_none(), "{fault}: found without it");
+        script.len()
     }
 
     #[test]

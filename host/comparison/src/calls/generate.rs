@@ -164,7 +164,10 @@ impl Sequence<'_> {
             0..=2 => Call::Close { clock },
             3 | 4 => Call::Revoke,
             5..=7 => Call::Allot { places: twist::places(self.random) },
-            8 => Call::Receive { clock, message: Vec::new(), space: twist::space(self.random) },
+            8 => {
+                let message = vec![b'0'; self.random.pick(&[0, 1, 338, 339, 340, 678])];
+                Call::Receive { clock, message, space: twist::space(self.random) }
+            }
             9 => Call::Open { codes, message: Vec::new() },
             10 => Call::State,
             11 => Call::Terms,
