@@ -51,7 +51,7 @@ impl Differs {
 
     /// The shortest sequence that was found for the difference, as a script.
     pub fn script(&self) -> String {
-        let head = format!("# seed {}: {} steps\n", self.seed, self.steps.len());
+        let head = format!("# from the sequence of seed {}\n", self.seed);
         [head, script::text(&self.steps), told(&self.stop)].concat()
     }
 }
