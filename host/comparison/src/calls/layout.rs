@@ -129,11 +129,11 @@ pub fn name(index: isize) -> String {
         FORM => "the form".to_string(),
         STATE => "the state".to_string(),
         COUNT => "the number of codes".to_string(),
-        TERMS..CODES => format!("number {} of the terms", index - TERMS),
-        CODES..TIMES => format!("the code at index {}", index - CODES),
-        TIMES..FLAGS => format!("the time {}", of_code(TIMES)),
-        FLAGS..RATES => format!("whether a time is held {}", of_code(FLAGS)),
-        RATES..AMOUNTS => format!("the rate {}", of_place(RATES)),
-        _ => format!("the amount {}", of_place(AMOUNTS)),
+        AMOUNTS.. => format!("the amount {}", of_place(AMOUNTS)),
+        RATES.. => format!("the rate {}", of_place(RATES)),
+        FLAGS.. => format!("whether a time is held {}", of_code(FLAGS)),
+        TIMES.. => format!("the time {}", of_code(TIMES)),
+        CODES.. => format!("the code at index {}", index - CODES),
+        TERMS.. => format!("number {} of the terms", index - TERMS),
     }
 }
