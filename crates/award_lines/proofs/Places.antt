@@ -4,7 +4,7 @@ use mathlib.Core.List.{List, [], _∷_, _++_, map, map-append, append-nil, appen
 use Prim.Native.Nat.{ℕ, zero, suc, _+_, _*_, _/_, _%_, _≤_}
 use native.Mathlib.Nat.{zero-add, add-zero, suc-add, add-suc}
 use native.Mathlib.Omega.{arith}
-use lib.ListN.{length, getD, drop, length-append, length-map}
+use lib.ListN.{length, getD, drop, length-append, length-map, List·getD-map}
 use lib.Seq.{drop-cons, drop-drop, drop-at, getD-drop}
 use Rattle.rules.specs.Allotment.{Bid}
 use Rattle.rules.specs.Calls.{bidsInBook}
@@ -12,6 +12,7 @@ use Rattle.bids.specs.Columns.{bidsFrom, bidsOf}
 use Rattle.bids.proofs.Columns.{length-bids}
 use Rattle.book.specs.declared.Book.{Book}
 use Rattle.book.specs.Viewed.{entryAt, entriesFrom, upTo64, viewed, codesIn}
+use Rattle.buffer.specs.Words.{low32}
 use Rattle.log.specs.Lines.{placeLines, awardLines}
 use Rattle.award_lines.specs.Places.{lineIfAny}
 
@@ -35,7 +36,7 @@ unfolding entriesFrom codesIn
 length-codes b i zero = refl
 length-codes b i (suc d) = ap suc (length-codes b (suc i) d)
 
-length-in-book : (b : Book) (i d : ℕ) → length (bidsInBook (entriesFrom b i d)) ≡ 10 * d
+pub length-in-book : (b : Book) (i d : ℕ) → length (bidsInBook (entriesFrom b i d)) ≡ 10 * d
 unfolding entriesFrom entryAt bidsInBook
 length-in-book b i zero = refl
 length-in-book b i (suc d) =
@@ -54,6 +55,11 @@ element-at l n x m e = (
 -- the line of the award at an index, if it is above zero
 unfoldable pub lineAt : List ℕ → List ℕ → List ℕ → ℕ → List ℕ
 lineAt codes rates awards i = lineIfAny (getD codes (i / 10) 0) (i % 10 + 1) (getD rates i 0) (getD awards i 0)
+
+-- the same where the rate is that of a word
+pub line-narrowed : (codes words awards : List ℕ) (i rate : ℕ) → rate ≡ low32 (getD words i 0) → lineIfAny (getD codes (i / 10) 0) (i % 10 + 1) rate (getD awards i 0) ≡ lineAt codes (map low32 words) awards i
+unfolding lineAt
+line-narrowed codes words awards i rate e = ap (λ (r : ℕ). lineIfAny (getD codes (i / 10) 0) (i % 10 + 1) r (getD awards i 0)) (e ∙ sym (List·getD-map low32 words i 0))
 
 -- the lines of d awards from index i on
 unfoldable pub linesFrom : List ℕ → List ℕ → List ℕ → ℕ → ℕ → List ℕ

@@ -1,10 +1,9 @@
--- The places of the arrays are the bids of the entries, in book order, in columns of numbers too. Assumes nothing.
+-- The places of the arrays are the bids of the entries, in book order, as numbers too. Assumes nothing.
 use mathlib.Core.Path.{_≡_, refl, sym, ap, ap₂, _∙_}
-use mathlib.Core.Bool.{Bool}
 use mathlib.Core.List.{List, [], _∷_, _++_, map}
 use Prim.Native.Nat.{ℕ, zero, suc, _+_, _*_, _≤_}
 use native.Mathlib.Omega.{arith}
-use lib.ListN.{length, getD, take, drop, length-map}
+use lib.ListN.{length, getD, take, drop}
 use lib.Seq.{drop-cons}
 use Rattle.places.specs.declared.Rate.{Rate}
 use Rattle.places.specs.declared.Amount.{Amount}
@@ -13,7 +12,7 @@ use Rattle.rules.specs.Calls.{bidsInBook}
 use Rattle.bids.specs.Columns.{bidsFrom, bidsOf, cents}
 use Rattle.bids.proofs.Columns.{bids-add, bids-shifted}
 use Rattle.book.specs.declared.Book.{Book}
-use Rattle.book.specs.Viewed.{hundredThousandths, rateOf, amountOf, columnsOf, bookOf, bookIn, Lends, entryAt, entriesFrom, upTo64, viewed, codesIn}
+use Rattle.book.specs.Viewed.{hundredThousandths, entryAt, entriesFrom, upTo64, viewed, codesIn}
 use Rattle.book.proofs.Empty.{upTo64-small}
 
 bids-nothing : (rs : List Rate) (xs : List Amount) (i : ℕ) → bidsFrom rs xs i (10 * zero) ≡ []
@@ -50,10 +49,6 @@ pub codes-viewed : (b : Book) → length (b .codes) ≡ 64 → codesIn (viewed b
 unfolding viewed
 codes-viewed b h = codes-first b 0 (upTo64 (b .n)) (omega (arith, h, upTo64-small (b .n) .0))
 
--- the codes of the entries of a book that lends its codes
-pub codes-lent : {n : ℕ} {codes held : List ℕ} {has : List Bool} (b : Book) → Lends b n codes held has → length codes ≡ 64 → codesIn (viewed b) ≡ take (upTo64 n) codes
-codes-lent b l h = codes-viewed b (ap length (l .codes-are) ∙ h) ∙ ap₂ (λ (k : ℕ) (cs : List ℕ). take (upTo64 k) cs) (l .n-is) (l .codes-are)
-
 -- the first n places as rates and amounts side by side
 side-by-side : (n : ℕ) (rs : List Rate) (xs : List Amount) → n ≤ length rs → n ≤ length xs → bidsOf (take n (map hundredThousandths rs)) (take n (map cents xs)) ≡ bidsFrom rs xs 0 n
 unfolding bidsOf bidsFrom
@@ -62,10 +57,10 @@ side-by-side (suc n) [] xs h k = absurd (let z : _≡_ {A = ℕ} 0 1 = omega ari
 side-by-side (suc n) (r ∷ rs) [] h k = absurd (let z : _≡_ {A = ℕ} 0 1 = omega arith in omega arith)
 side-by-side (suc n) (r ∷ rs) (x ∷ xs) h k = ap (λ (l : List Bid). record { rate = r .0; amount = x .0 } ∷ l) (side-by-side n rs xs (omega arith) (omega arith) ∙ sym (bids-shifted r rs x xs 0 n))
 
--- the bids of a book are the first places of its columns
-pub bids-in-columns : (b : Book) → length (b .rates) ≡ 640 → length (b .amounts) ≡ 640
-    → bidsOf (take (10 * upTo64 (b .n)) (columnsOf b .rates)) (take (10 * upTo64 (b .n)) (columnsOf b .amounts)) ≡ bidsInBook (viewed b)
-bids-in-columns b hr hx =
+-- the bids of a book are the first places of its rates and amounts as numbers
+pub bids-numbered : (b : Book) → length (b .rates) ≡ 640 → length (b .amounts) ≡ 640
+    → bidsOf (take (10 * upTo64 (b .n)) (map hundredThousandths (b .rates))) (take (10 * upTo64 (b .n)) (map cents (b .amounts))) ≡ bidsInBook (viewed b)
+bids-numbered b hr hx =
     let s = upTo64-small (b .n) .0 in
     side-by-side (10 * upTo64 (b .n)) (b .rates) (b .amounts) (omega (arith, s, hr)) (omega (arith, s, hx)) ∙ sym (bids-viewed b)
 
@@ -73,18 +68,3 @@ bids-in-columns b hr hx =
 pub there-and-back : {A B : Type 0} (back : B → A) (there : A → B) → ((x : A) → back (there x) ≡ x) → (l : List A) → map back (map there l) ≡ l
 there-and-back back there h [] = refl
 there-and-back {A} back there h (x ∷ l) = ap₂ (λ (y : A) (ys : List A). y ∷ ys) (h x) (there-and-back back there h l)
-
--- the book of a book's columns is that book
-pub columns-back : (b : Book) → bookIn (columnsOf b) ≡ b
-columns-back b =
-    let rates = there-and-back rateOf hundredThousandths (λ v. refl) (b .rates) in
-    let amounts = there-and-back amountOf cents (λ v. refl) (b .amounts) in
-    λ i. record { codes = b .codes; n = b .n; held = b .held; has = b .has; rates = rates i; amounts = amounts i }
-
--- the same of columns that are lent
-pub bids-lent : (n : ℕ) (codes held : List ℕ) (has : List Bool) (rates amounts : List ℕ) → length rates ≡ 640 → length amounts ≡ 640
-    → bidsOf (take (10 * upTo64 n) rates) (take (10 * upTo64 n) amounts) ≡ bidsInBook (viewed (bookOf n codes held has rates amounts))
-bids-lent n codes held has rates amounts hr hx =
-    let k = 10 * upTo64 n in
-    ap₂ (λ (r x : List ℕ). bidsOf (take k r) (take k x)) (sym (there-and-back hundredThousandths rateOf (λ x. refl) rates)) (sym (there-and-back cents amountOf (λ x. refl) amounts))
-    ∙ bids-in-columns (bookOf n codes held has rates amounts) (length-map rates rateOf ∙ hr) (length-map amounts amountOf ∙ hx)

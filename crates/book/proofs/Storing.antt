@@ -15,9 +15,8 @@ use borrow.Author.Tests.{ltb-true, ltb-false}
 use Rattle.places.specs.declared.Rate.{Rate}
 use Rattle.places.specs.declared.Amount.{Amount}
 use Rattle.book.specs.declared.Book.{Book}
-use Rattle.book.specs.declared.Columns.{Columns}
-use Rattle.bids.specs.Columns.{noRate, noAmount, cents, bidsFrom}
-use Rattle.book.specs.Viewed.{hundredThousandths, rateOf, amountOf, bookOf, bookIn, heldAt, entryAt, entriesFrom, upTo64, viewed, replaced}
+use Rattle.bids.specs.Columns.{noRate, noAmount, bidsFrom}
+use Rattle.book.specs.Viewed.{heldAt, entryAt, entriesFrom, upTo64, viewed, replaced}
 use Rattle.book.proofs.Mapped.{mapped-at}
 
 module _ {A : Type 0} where
@@ -88,7 +87,7 @@ timed b k t rs xs = record { codes = b .codes; n = b .n; held = set (b .held) k 
 abbrev pub stored : Book → ℕ → ℕ → List Rate → List Amount → Book
 stored b k t vs ws = timed b k t (sets (b .rates) (10 * k) vs) (sets (b .amounts) (10 * k) ws)
 
--- values stored as numbers, one more and all of them, and what the numbers stand for
+-- values stored as numbers, one more and all of them
 module _ {A : Type 0} (number : A → ℕ) where
   pub number-stored : (l : List ℕ) (k : ℕ) (vs : List A) (cur : List ℕ) (i : ℕ) (d : A) → i < length vs → cur ≡ sets l k (take i (map number vs))
       → set cur (k + i) (number (getD vs i d)) ≡ sets l k (take (i + 1) (map number vs))
@@ -96,24 +95,6 @@ module _ {A : Type 0} (number : A → ℕ) where
 
   pub numbers-stored : (l : List ℕ) (k : ℕ) (vs : List A) (cur : List ℕ) (i : ℕ) → length vs ≤ i → cur ≡ sets l k (take i (map number vs)) → cur ≡ sets l k (map number vs)
   numbers-stored l k vs cur i h e = e ∙ ap (sets l k) (take-all i (map number vs) (omega (arith, h, length-map vs number)))
-
-  module _ (back : ℕ → A) (same : (v : A) → back (number v) ≡ v) where
-    pub back-set : (l : List ℕ) (i n : ℕ) → map back (set l i n) ≡ set (map back l) i (back n)
-    back-set [] i n = refl
-    back-set (x ∷ l) zero n = refl
-    back-set (x ∷ l) (suc i) n = ap (λ (y : List A). back x ∷ y) (back-set l i n)
-
-    pub stored-back : (l : List ℕ) (k : ℕ) (vs : List A) → map back (sets l k (map number vs)) ≡ sets (map back l) k vs
-    stored-back l k [] = refl
-    stored-back l k (v ∷ vs) =
-        stored-back (set l k (number v)) (suc k) vs
-        ∙ ap (λ (y : List A). sets y (suc k) vs) (back-set l k (number v) ∙ ap (set (map back l) k) (same v))
-
--- the book of columns in which a time and the places of a message are stored
-pub book-stored : (c : Columns) (k t : ℕ) (vs : List Rate) (ws : List Amount)
-    → bookOf (c .n) (c .codes) (set (c .held) k t) (set (c .has) k true) (sets (c .rates) (10 * k) (map hundredThousandths vs)) (sets (c .amounts) (10 * k) (map cents ws)) ≡ stored (bookIn c) k t vs ws
-book-stored c k t vs ws =
-    ap₂ (timed (bookIn c) k t) (stored-back hundredThousandths rateOf (λ v. refl) (c .rates) (10 * k) vs) (stored-back cents amountOf (λ w. refl) (c .amounts) (10 * k) ws)
 
 -- the lengths that the arrays have by their types
 pub record Sized (b : Book) : Type 0 where

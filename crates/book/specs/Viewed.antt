@@ -1,19 +1,17 @@
 -- The arrays of a book as the entries of document 01, and what finding a code and holding a message mean for them. Assumes nothing.
-use mathlib.Core.Path.{_≡_}
 use mathlib.Core.Bool.{Bool, true, false, cond}
 use mathlib.Core.List.{List, [], _∷_, map}
 use mathlib.Core.Option.{Option, none, some}
 use Prim.Native.Nat.{ℕ, zero, suc, _*_}
 use lib.Dec.{eqb, ltb}
-use lib.ListN.{length, getD}
+use lib.ListN.{getD}
 use Rattle.rules.specs.Allotment.{Bid}
 use Rattle.rules.specs.Opening.{Admission, admitting, any}
 use Rattle.places.specs.declared.Rate.{Rate}
 use Rattle.places.specs.declared.Amount.{Amount}
-use Rattle.bids.specs.Columns.{bidsFrom, cents}
+use Rattle.bids.specs.Columns.{bidsFrom}
 use Rattle.rules.specs.Receiving.{Submission, Entry, isAfter, takes, hold}
 use Rattle.book.specs.declared.Book.{Book}
-use Rattle.book.specs.declared.Columns.{Columns}
 use Rattle.book.specs.declared.Found.{Found}
 use Rattle.book.specs.declared.Found.the-variants.{At, Absent}
 
@@ -26,29 +24,6 @@ rateOf n = record { 0 = n }
 
 abbrev pub amountOf : ℕ → Amount
 amountOf n = record { 0 = n }
-
--- the columns of a book, and the book of columns
-abbrev pub columnsOf : Book → Columns
-columnsOf b = record { codes = b .codes; n = b .n; held = b .held; has = b .has; rates = map hundredThousandths (b .rates); amounts = map cents (b .amounts) }
-
-abbrev pub bookOf : ℕ → List ℕ → List ℕ → List Bool → List ℕ → List ℕ → Book
-bookOf n codes held has rates amounts = record { codes = codes; n = n; held = held; has = has; rates = map rateOf rates; amounts = map amountOf amounts }
-
-abbrev pub bookIn : Columns → Book
-bookIn c = bookOf (c .n) (c .codes) (c .held) (c .has) (c .rates) (c .amounts)
-
--- a book lends these codes, times and flags, and has so many codes; what it holds in its places is left open
-pub record Lends (b : Book) (n : ℕ) (codes held : List ℕ) (has : List Bool) : Type 0 where
-  pub n-is : b .n ≡ n
-  pub codes-are : b .codes ≡ codes
-  pub held-are : b .held ≡ held
-  pub has-are : b .has ≡ has
-
--- codes, times and flags that are lent have the lengths of a book's arrays
-pub record Full (codes held : List ℕ) (has : List Bool) : Type 0 where
-  pub codes-length : length codes ≡ 64
-  pub held-length : length held ≡ 64
-  pub has-length : length has ≡ 64
 
 -- 'the reference time last accepted, or none'
 unfoldable pub heldAt : Book → ℕ → Option ℕ

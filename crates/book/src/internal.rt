@@ -1,17 +1,15 @@
-// One code's place in the book: where it stands, whether it takes a message, and what it holds after one, in a book or in columns.
+// One code's place in the book: where it stands, whether it takes a message, and what it holds after one.
 use crate::Book;
 use crate::Found;
 use crate::up_to_64;
 use places::Amount;
 use places::Rate;
 ghost use mathlib.Core.Path.{_≡_};
-ghost use mathlib.Core.List.{map};
 ghost use Prim.Native.Nat.{_*_, _<_};
 ghost use lib.ListN.{length};
-ghost use lib.Seq.{sets};
-ghost use Rattle.bids.specs.Columns.{bidsFrom, cents};
+ghost use Rattle.bids.specs.Columns.{bidsFrom};
 ghost use Rattle.book.specs.declared.Book.{Book};
-ghost use Rattle.book.specs.Viewed.{hundredThousandths, viewed, findFrom, indexOf, takenAt, replaced};
+ghost use Rattle.book.specs.Viewed.{viewed, findFrom, indexOf, takenAt, replaced};
 
 // A code as a number of 64 bits.
 fn wide(c: u32) -> u64
@@ -74,29 +72,5 @@ pub fn hold(b: Book, at: usize, time: u64, rates: [Rate; 10], amounts: [Amount; 
         has,
         rates: rs,
         amounts: xs,
-    }
-}
-
-// Stores the rates of ten places in a column of numbers, at the places of the code at an index.
-pub fn put_rates(column: &mut [u32; 640], at: usize, rates: [Rate; 10])
-    requires { ⌜ at < 64 ⌝ }
-    ensures { λ _. ⌜ now (column .exit) ≡ sets (now (column .entry)) (10 * at) (map hundredThousandths rates) ⌝ }
-{
-    let mut i = 0;
-    while i < 10 {
-        column[10 * at + i] = rates[i].0;
-        i += 1;
-    }
-}
-
-// Stores their amounts.
-pub fn put_amounts(column: &mut [u64; 640], at: usize, amounts: [Amount; 10])
-    requires { ⌜ at < 64 ⌝ }
-    ensures { λ _. ⌜ now (column .exit) ≡ sets (now (column .entry)) (10 * at) (map cents amounts) ⌝ }
-{
-    let mut i = 0;
-    while i < 10 {
-        column[10 * at + i] = amounts[i].0;
-        i += 1;
     }
 }

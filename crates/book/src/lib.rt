@@ -9,7 +9,7 @@ ghost use mathlib.Core.List.{map};
 ghost use lib.ListN.{take};
 ghost use Rattle.rules.specs.Receiving.{newBook};
 ghost use Rattle.bids.specs.Columns.{cents};
-ghost use Rattle.book.specs.Viewed.{hundredThousandths, rateOf, amountOf, upTo64, viewed, findFrom, isAt, indexOf, columnsOf, bookIn};
+ghost use Rattle.book.specs.Viewed.{hundredThousandths, amountOf, upTo64, viewed, findFrom, isAt, indexOf};
 
 // For each code the time last accepted, whether there is one, and ten places from ten times its index on.
 pub struct Book {
@@ -19,16 +19,6 @@ pub struct Book {
     pub has: [bool; 64],
     pub rates: [Rate; 640],
     pub amounts: [Amount; 640],
-}
-
-// A book with its rates and amounts as plain numbers, which are lent as slices; an array of structs cannot be.
-pub struct Columns {
-    pub codes: [u32; 64],
-    pub n: usize,
-    pub held: [u64; 64],
-    pub has: [bool; 64],
-    pub rates: [u32; 640],
-    pub amounts: [u64; 640],
 }
 
 // Where a code stands in the book, or that it does not.
@@ -93,8 +83,8 @@ pub fn find(b: Book, code: u64) -> Found
     find_in(&codes, b.n, code)
 }
 
-// The numbers of 640 rates.
-fn numbers_of(from: [Rate; 640]) -> [u32; 640]
+// The numbers of 640 rates, which are lent as a slice; an array of structs cannot be.
+pub fn numbers_of(from: [Rate; 640]) -> [u32; 640]
     ensures { λ r. ⌜ r ≡ map hundredThousandths from ⌝ }
 {
     let mut numbers = [0u32; 640];
@@ -107,7 +97,7 @@ fn numbers_of(from: [Rate; 640]) -> [u32; 640]
 }
 
 // The eurocents of 640 amounts.
-fn cents_of(from: [Amount; 640]) -> [u64; 640]
+pub fn cents_of(from: [Amount; 640]) -> [u64; 640]
     ensures { λ r. ⌜ r ≡ map cents from ⌝ }
 {
     let mut cents = [0u64; 640];
@@ -119,20 +109,7 @@ fn cents_of(from: [Amount; 640]) -> [u64; 640]
     cents
 }
 
-// The rates of 640 numbers.
-fn rates_of(numbers: [u32; 640]) -> [Rate; 640]
-    ensures { λ r. ⌜ r ≡ map rateOf numbers ⌝ }
-{
-    let mut rates = [Rate(0); 640];
-    let mut i = 0;
-    while i < 640 {
-        rates[i] = Rate(numbers[i]);
-        i += 1;
-    }
-    rates
-}
-
-// The amounts of 640 numbers of eurocents, from 640 zeros on: an award or what a book holds for each place.
+// The amounts of 640 numbers of eurocents, from 640 zeros on: an award for each place.
 pub fn amounts_of(cents: [u64; 640]) -> [Amount; 640]
     ensures { λ r. ⌜ r ≡ map amountOf cents ⌝ }
 {
@@ -143,42 +120,4 @@ pub fn amounts_of(cents: [u64; 640]) -> [Amount; 640]
         i += 1;
     }
     amounts
-}
-
-// The columns of a book.
-pub fn columns_of(b: Book) -> Columns
-    ensures { λ r. ⌜ r ≡ columnsOf b ⌝ }
-{
-    let codes = b.codes;
-    let held = b.held;
-    let has = b.has;
-    let rates = b.rates;
-    let amounts = b.amounts;
-    Columns {
-        codes,
-        n: b.n,
-        held,
-        has,
-        rates: numbers_of(rates),
-        amounts: cents_of(amounts),
-    }
-}
-
-// The book of columns.
-pub fn book_of(c: Columns) -> Book
-    ensures { λ r. ⌜ r ≡ bookIn c ⌝ }
-{
-    let codes = c.codes;
-    let held = c.held;
-    let has = c.has;
-    let rates = c.rates;
-    let amounts = c.amounts;
-    Book {
-        codes,
-        n: c.n,
-        held,
-        has,
-        rates: rates_of(rates),
-        amounts: amounts_of(amounts),
-    }
 }

@@ -11,7 +11,7 @@ use Rattle.rules.specs.Calls as rules
 use Rattle.rules.specs.Calls.{bidsInBook}
 use Rattle.bids.specs.Columns.{bidsOf, cents}
 use Rattle.book.specs.Viewed.{hundredThousandths, amountOf, upTo64, viewed}
-use Rattle.book.proofs.Order.{bids-in-columns, there-and-back}
+use Rattle.book.proofs.Order.{bids-numbered, there-and-back}
 use Rattle.refusals.specs.Conditions.{refusalNumber}
 use Rattle.outcomes.specs.declared.internal.AllotAnswer.{AllotAnswer}
 use Rattle.outcomes.specs.Allotting.{AllotsBids}
@@ -31,18 +31,18 @@ rates-back [] = refl
 rates-back (w ∷ l) = ap (λ (y : List ℕ). low32 w ∷ y) (rates-back l)
 
 -- the bids that are lent are those of the book
-pub bids-lent : (ws : List ℕ) (n : ℕ) (rates : List ℕ) → 1496 ≤ length ws → n ≡ upTo64 (getD ws 2 0) → 10 * n ≤ 640 → rates ≡ map low32 (part 216 640 ws)
+pub bids-lent : (ws : List ℕ) (n : ℕ) (rates : List ℕ) → 1496 ≤ length ws → n ≡ upTo64 (getD ws 2 0) → 10 * n ≤ 640 → take (10 * n) rates ≡ take (10 * n) (map low32 (part 216 640 ws))
     → bidsOf (take (10 * n - 0) rates) (take (856 + 10 * n - 856) (drop 856 ws)) ≡ bidsInBook (viewed (bookIn ws))
 unfolding bookIn
 bids-lent ws n rates long e few is =
     let b = bookIn ws in
     let s = sized ws long in
-    let rs : rates ≡ map hundredThousandths (b .rates) = is ∙ sym (rates-back (part 216 640 ws)) in
+    let rs : take (10 * n) rates ≡ take (10 * n) (map hundredThousandths (b .rates)) = is ∙ ap (take (10 * n)) (sym (rates-back (part 216 640 ws))) in
     let xs : part 856 640 ws ≡ map cents (b .amounts) = sym (there-and-back cents amountOf (λ x. refl) (part 856 640 ws)) in
     ap₂ (λ (k : ℕ) (l : List ℕ). bidsOf (take k rates) l) (sub-zero (10 * n)) (amounts-lent ws (10 * n) few)
-    ∙ ap₂ (λ (r x : List ℕ). bidsOf (take (10 * n) r) (take (10 * n) x)) rs xs
+    ∙ ap₂ (λ (r x : List ℕ). bidsOf r (take (10 * n) x)) rs xs
     ∙ ap (λ (k : ℕ). bidsOf (take (10 * k) (map hundredThousandths (b .rates))) (take (10 * k) (map cents (b .amounts)))) e
-    ∙ bids-in-columns b (s .rates-length) (s .amounts-length)
+    ∙ bids-numbered b (s .rates-length) (s .amounts-length)
 
 -- the tender changes as in closing and revoking, and the awards stand beside it
 pub allots-in : (ws after : List ℕ) (r : AllotAnswer) (n : ℕ) (awarded : List ℕ) → 10 * n ≤ 640 → length awarded ≡ 10 * n

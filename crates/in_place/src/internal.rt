@@ -26,7 +26,7 @@ ghost use mathlib.Core.Path.{_≡_};
 ghost use mathlib.Core.Bool.{true};
 ghost use mathlib.Core.List.{map};
 ghost use Prim.Native.Nat.{_+_, _≤_, _<_};
-ghost use lib.ListN.{length, replicate};
+ghost use lib.ListN.{length, take, replicate};
 ghost use lib.Seq.{sets};
 ghost use Rattle.rules.specs.Calls.{close, revoke};
 ghost use Rattle.bids.specs.Columns.{cents};
@@ -162,14 +162,14 @@ pub fn revoke_in(words: &mut [u64]) -> Refusal
     refusal
 }
 
-// The rates of all places.
-pub fn rates_in(words: &[u64]) -> [u32; 640]
-    requires { ⌜ 1496 ≤ length (now words) ⌝ }
-    ensures { λ r. ⌜ r ≡ map low32 (part 216 640 (now (words .entry))) ⌝ }
+// The rates of the first places.
+fn rates_in(words: &[u64], end: usize) -> [u32; 640]
+    requires { ⌜ (1496 ≤ length (now words)) × (end ≤ 640) ⌝ }
+    ensures { λ r. ⌜ take end r ≡ take end (map low32 (part 216 640 (now (words .entry)))) ⌝ }
 {
     let mut rates = [0u32; 640];
     let mut i = 0;
-    while i < 640 {
+    while i < end {
         rates[i] = narrow(words[216 + i]);
         i += 1;
     }
@@ -181,8 +181,8 @@ pub fn allot_in(words: &mut [u64], awards: &mut [u64]) -> AllotAnswer
     requires { ⌜ (isTender (now words) ≡ true) × (now awards ≡ replicate 640 0) ⌝ }
     ensures { λ r. ⌜ AllotsIn (now (words .entry)) r (now (words .exit)) (now (awards .exit)) ⌝ }
 {
-    let rates = rates_in(words);
     let end = 10 * up_to_64(words[2] as usize);
+    let rates = rates_in(words, end);
     let terms = terms_in(words);
     let state = state_of(words[1]);
     let answer = allot_bids(

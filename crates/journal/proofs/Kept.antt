@@ -12,7 +12,7 @@ use Rattle.rules.specs.Opening.{admitting}
 use Rattle.rules.specs.Calls.{Tender, openTender}
 use Rattle.log.specs.Steps.{Log, Step, ending, onTender, admittedIn, admissionStep, openedStep, announcementStep, received, receptionStep, closed, closingStep, revoked, revocationStep, allotted, allottingStep, step, tagOf, contentOf, afterField, holdsField, walked, logFrom}
 use Rattle.log.proofs.Codes.{first-65-tell}
-use Rattle.steps.specs.Parts.{kept}
+use Rattle.steps.specs.Viewed.{kept}
 
 -- two steps alike: a journal keeps the same of both, and their lines are the same
 abbrev Alike : Step → Step → Type 0

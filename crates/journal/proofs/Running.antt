@@ -12,7 +12,7 @@ use Rattle.output.proofs.Output.{nothing, then, from-start}
 use Rattle.layout.specs.Fields.{lengthAt}
 use Rattle.log.specs.Steps.{Log, step, tagOf, contentOf, afterField, holdsField, logFrom}
 use Rattle.log.proofs.Walks.{held-head, held-whole, field-first}
-use Rattle.steps.specs.Parts.{kept}
+use Rattle.steps.specs.Viewed.{kept}
 use Rattle.journal.specs.Runs.{Runs}
 use Rattle.journal.proofs.Kept.{log-kept}
 
@@ -23,9 +23,6 @@ none-taken l s space = record { text = []; wrote = nothing space 0; log = λ res
 -- a run that leads to another log under another name, or to one that goes on alike
 pub leads-to : {l k j : Log} {s space x after : List ℕ} {n : ℕ} → k ≡ j → Runs l s space k x after n → Runs l s space j x after n
 leads-to {l} {k} {j} {s} {space} {x} {after} {n} e r = subst (λ (o : Log). Runs l s space o x after n) e r
-
-pub starts-from : {l k j : Log} {s space x after : List ℕ} {n : ℕ} → l ≡ k → Runs l s space j x after n → Runs k s space j x after n
-starts-from {l} {k} {j} {s} {space} {x} {after} {n} e r = subst (λ (o : Log). Runs o s space j x after n) e r
 
 pub keeps : {l k : Log} {s space x after : List ℕ} {n : ℕ} → Runs l s space k x after n → Runs l s space (kept k) x after n
 keeps {k = k} {x = x} r = record { text = r .text; wrote = r .wrote; log = λ rest. r .log rest ∙ ap (λ (t : List ℕ). r .text ++ t) (log-kept k (x ++ rest)) }

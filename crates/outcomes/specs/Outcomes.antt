@@ -19,7 +19,7 @@ use Rattle.bids.specs.Columns.{bidsFrom}
 use Rattle.book.specs.declared.Book.{Book}
 use Rattle.book.specs.Viewed as book
 use Rattle.book.specs.declared.Found.{Found}
-use Rattle.book.specs.Viewed.{indexOf, Lends}
+use Rattle.book.specs.Viewed.{indexOf}
 use Rattle.errors.specs.Listed.{listed}
 use Rattle.terms.specs.declared.Terms.{Terms}
 use Rattle.terms.specs.Viewed as terms
@@ -89,8 +89,3 @@ pub record ComesTo (t : rules.Tender) (m : List ℕ) (date time room : ℕ) (o :
   pub left : refusalNumber (o .refusal) ≡ none → (space : List ℕ) → Left t (receptionOf m date time space) o
   pub few : o .errors .n ≤ 16
   pub within : o .accepted .at < 64
-
--- the same for any book that lends these codes, times and flags
-abbrev pub ComesToInAny : State → Terms → ℕ → List ℕ → List ℕ → List Bool → List ℕ → ℕ → ℕ → ℕ → Outcome → Type 0
-ComesToInAny state terms n codes held has m date time room o =
-    (b : Book) → Lends b n codes held has → ComesTo (viewedOf state terms b) m date time room o

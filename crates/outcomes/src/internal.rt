@@ -3,9 +3,7 @@ use allotment::internal::allot;
 use book::Book;
 use book::Found;
 use book::index_of;
-use book::internal::find_in;
 use book::internal::hold;
-use book::internal::takes_at;
 use digits::number_of;
 use envelope::application::Fields;
 use envelope::application::ReadAnswer;
@@ -28,14 +26,13 @@ use terms::Terms;
 ghost use mathlib.Core.Path.{_≡_};
 ghost use mathlib.Core.Bool.{true, false, _&&_};
 ghost use Prim.Native.Nat.{_≤_, _<_};
-ghost use lib.ListN.{length, take};
+ghost use lib.ListN.{length};
 ghost use Rattle.calendar.specs.Calendar.{validDate, validTime};
 ghost use Rattle.layout.specs.Fields.{readable};
 ghost use Rattle.envelope.specs.Application.{layout6G1, fieldsOf, readRefusal};
-ghost use Rattle.rules.specs.Opening.{rising};
-ghost use Rattle.book.specs.Viewed.{viewed, upTo64, Full};
+ghost use Rattle.book.specs.Viewed.{viewed};
 ghost use Rattle.refusals.specs.Conditions.{stateOf, refusalNumber};
-ghost use Rattle.outcomes.specs.Outcomes.{notReceiving, Checks, isHeld, entriesAfter, LeavesInAny, ComesToInAny};
+ghost use Rattle.outcomes.specs.Outcomes.{notReceiving, Checks, isHeld, entriesAfter, LeavesInAny};
 ghost use Rattle.outcomes.specs.Allotting.{AllotsAny};
 
 // What is accepted of a message: where its code stands, its reference time and its ten places.
@@ -167,38 +164,6 @@ pub fn judged(
         errors,
         accepted,
     }
-}
-
-// What the reception of a message comes to, with so much room for the reply, where a book has these codes, times and flags. They are lent, since
-// an index into a book by value copies the book.
-pub fn outcome_of<'a>(
-    state: State,
-    terms: Terms,
-    n: usize,
-    codes: &'a [u32],
-    held: &'a [u64],
-    has: &'a [bool],
-    m: &[u8],
-    date: u64,
-    time: u64,
-    room: usize,
-) -> Outcome
-    requires { ⌜ Full (now codes) (now held) (now has) ⌝ }
-    requires { ⌜ rising (take (upTo64 n) (now codes)) ≡ true ⌝ }
-    ensures { λ r. ⌜ ComesToInAny state terms n (now (codes .entry)) (now (held .entry)) (now (has .entry)) (now (m .entry)) date time room r ⌝ }
-{
-    let checked = receiving_checks(state, m, date, time, room);
-    let refusal = checked.refusal;
-    if is_refused(refusal) {
-        return refused_with(refusal);
-    }
-    let fields = checked.fields;
-    let sender = fields.sender;
-    let reference = fields.time;
-    let found = find_in(codes, n, number_of(sender));
-    let sent = number_of(reference);
-    let taken = takes_at(held, has, found, sent);
-    judged(terms, found, taken, m, fields, date, time)
 }
 
 // Why allotting is refused, or that it is not, and the marginal rate.

@@ -3,21 +3,24 @@ use mathlib.Core.Path.{_≡_, sym, ap, _∙_}
 use mathlib.Core.Bool.{Bool, true, false, cond, _&&_}
 use mathlib.Core.List.{List, []}
 use mathlib.Core.Option.{Option, none, some}
-use Prim.Native.Nat.{ℕ, _/_, _%_, min}
+use Prim.Native.Nat.{ℕ, _+_, _*_, _/_, _%_, _≤_, _<_, min}
+use native.Mathlib.Numerals.{add-one}
 use native.Mathlib.Omega.{arith}
 use lib.Dec.{eqb}
-use lib.ListN.{length, take}
+use lib.ListN.{length, take, getD, set}
+use lib.Seq.{take-suc, take-suc-set}
 use borrow.Author.Tests.{eqb-true}
 use Rattle.laws.proofs.Tests.{and-left, and-right}
+use Rattle.output.proofs.Output.{nothing}
 use Rattle.digits.specs.Decimal.{allDigits}
 use Rattle.rules.specs.Opening.{admitting}
 use Rattle.log.specs.Steps.{Log, Step, admissionStep, ending}
 use Rattle.session_fields.specs.Codes.{codesFrom}
 use Rattle.session_fields.proofs.Codes.{codes-kept, admitted-are}
-use Rattle.steps.specs.declared.Change.the-variants as change
+use Rattle.steps.specs.declared.Standing.{Standing}
 use Rattle.steps.specs.declared.Taken.{Taken}
-use Rattle.steps.specs.Parts.{Parts, viewed, Given, Takes}
-use Rattle.steps.proofs.Taking.{unwritten, takes-as, takes-by, takes-ended}
+use Rattle.steps.specs.Viewed.{viewed, Given, Takes, endedAt}
+use Rattle.steps.proofs.Taking.{takes-as, takes-ended}
 
 -- the step of an A0 in groups of five digits, and of another
 abbrev stepOn : Log → Option (List ℕ) → Step
@@ -27,14 +30,27 @@ admission-is : (l : Log) (s : List ℕ) (t : Bool) → eqb (length s % 5) 0 && a
 unfolding admissionStep
 admission-is l s t h = sym (ap (stepOn l) (admitted-are s ∙ ap (λ (b : Bool). cond b (some (codesFrom (length s / 5) s)) none) h))
 
-module _ (p : Parts) (g : Given p) (s space : List ℕ) (r : Taken) (z : r .length ≡ 0) where
-  pub admitted : (n : ℕ) → eqb (length s % 5) 0 && allDigits s ≡ true → n ≡ min (length s / 5) 65 → r .change ≡ change.Admitted n → Takes (admissionStep (viewed p) s) p s space r space
-  admitted n h m e =
-      let k : take 65 (codesFrom (length s / 5) s) ≡ codesFrom n s = codes-kept (length s / 5) 65 s ∙ ap (λ (i : ℕ). codesFrom i s) (sym m) in
-      let five = eqb-true (length s % 5) 0 (and-left (eqb (length s % 5) 0) (allDigits s) h) in
-      takes-as (admission-is (viewed p) s true h)
-      (takes-by p g s space r _ (change.Admitted n) space e (λ i. record { ended = false; admission = admitting (k i); tender = viewed p .tender })
-      (omega (arith, m), omega (arith, m, five), and-right (eqb (length s % 5) 0) (allDigits s) h) (unwritten space (r .length) z))
+-- one code more that is put
+pub code-put : (codes first : List ℕ) (i : ℕ) → i < length codes → i < length first → take i codes ≡ take i first → take (i + 1) (set codes i (getD first i 0)) ≡ take (i + 1) first
+code-put codes first i h k e = rw (add-one, take-suc-set codes i (getD first i 0) h, take-suc first i 0 k, e)
 
-  pub not-admitted : eqb (length s % 5) 0 && allDigits s ≡ false → r .change ≡ change.Ended → Takes (admissionStep (viewed p) s) p s space r space
-  not-admitted h e = takes-as (admission-is (viewed p) s false h) (takes-ended p g s space r e z)
+-- the codes that are kept are digits, and there are bytes for them
+pub enough : (s : List ℕ) (n : ℕ) → eqb (length s % 5) 0 && allDigits s ≡ true → n ≡ min (length s / 5) 65 → (5 * n ≤ length s) × (allDigits s ≡ true)
+enough s n h m =
+    let five = eqb-true (length s % 5) 0 (and-left (eqb (length s % 5) 0) (allDigits s) h) in
+    (omega (arith, m, five), and-right (eqb (length s % 5) 0) (allDigits s) h)
+
+module _ (st : Standing) (codes words s space : List ℕ) (g : Given st words) where
+  pub admitted : (n : ℕ) (after : List ℕ) → eqb (length s % 5) 0 && allDigits s ≡ true → n ≡ min (length s / 5) 65 → n ≤ 65 → take n after ≡ codesFrom n s
+      → Takes (admissionStep (viewed st codes words) s) space (record { standing = record { ended = false; opened = st .opened; n = n }; length = 0 }) after words space
+  admitted n after h m few e =
+      let k : take 65 (codesFrom (length s / 5) s) ≡ take n after = codes-kept (length s / 5) 65 s ∙ ap (λ (i : ℕ). codesFrom i s) (sym m) ∙ sym e in
+      takes-as (admission-is (viewed st codes words) s true h)
+      (record {
+        state = λ i. record { ended = false; admission = admitting (k i); tender = viewed st codes words .tender };
+        lines = nothing space 0;
+        given = record { few = few; tender = g .tender };
+      })
+
+  pub not-admitted : (r : Taken) → r ≡ endedAt st → eqb (length s % 5) 0 && allDigits s ≡ false → Takes (admissionStep (viewed st codes words) s) space r codes words space
+  not-admitted r e h = takes-as (admission-is (viewed st codes words) s false h) (takes-ended st codes words space r e g)

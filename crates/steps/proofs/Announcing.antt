@@ -1,54 +1,50 @@
 -- An announcement, accepted or refused. Assumes nothing.
-use mathlib.Core.Path.{_≡_, sym, ap, _∙_}
+use mathlib.Core.Path.{_≡_, sym, ap, subst, _∙_}
 use mathlib.Core.Bool.{true, false}
-use mathlib.Core.List.{List}
+use mathlib.Core.List.{List, _++_}
 use mathlib.Core.Option.{Option, none, some}
 use Prim.Native.Nat.{ℕ}
+use lib.ListN.{take, drop}
 use Rattle.output.specs.Output.{Wrote}
 use Rattle.output.proofs.Output.{nothing, said}
 use Rattle.envelope.specs.Refusals.{unlessRefused, orZero}
-use Rattle.rules.specs.Opening as rules
-use Rattle.rules.specs.Opening.{admitting, openingRefused, termsOf}
-use Rattle.rules.specs.Receiving.{newBook}
-use Rattle.rules.specs.Calls.{Open, noTender, openTender}
-use Rattle.rules.proofs.Opening.{few-codes}
-use Rattle.terms.specs.declared.Terms as declared
+use Rattle.rules.specs.Opening.{admitting, termsOf}
+use Rattle.rules.specs.Calls.{openTender}
 use Rattle.terms.specs.declared.OpenAnswer.{OpenAnswer}
-use Rattle.terms.specs.Viewed as terms
-use Rattle.terms.specs.Viewed.{openRefusal, isOpened, admittedUnless, openingTerms}
-use Rattle.tender.proofs.Opening.{number, none-holds, terms-open, refused-some}
+use Rattle.terms.specs.Viewed.{openRefusal, isOpened}
+use Rattle.terms.proofs.Forming.{opened-none, refused-some}
+use Rattle.buffer_opening.specs.Opening.{held, openedNumbers, OpensIn}
 use Rattle.log.specs.Lines.{refusedLine}
-use Rattle.log.specs.Steps.{Step, openedStep, announcementStep}
-use Rattle.steps.specs.declared.Change.the-variants as change
-use Rattle.steps.specs.declared.Taken.{Taken}
-use Rattle.steps.specs.Parts.{Parts, admittedNow, viewed, Given, Takes}
-use Rattle.steps.proofs.Taking.{all-kept, takes-as, takes-by, takes-nothing, unwritten}
+use Rattle.log.specs.Steps.{openedStep, announcementStep}
+use Rattle.steps.specs.declared.Standing.{Standing}
+use Rattle.steps.specs.Viewed.{viewed, Given, Takes}
+use Rattle.steps.proofs.Taking.{all-kept, takes-as, takes-nothing}
 
-module _ (p : Parts) (g : Given p) (s space : List ℕ) (r : Taken) (a : OpenAnswer) (t : declared.Terms)
-    (e : _≡_ {A = Option ℕ × rules.Terms} (openRefusal a, terms.viewed t (admittedUnless s (admitting (admittedNow p)))) (openingTerms s (admitting (admittedNow p)))) where
-  abbrev codes : List ℕ
-  codes = admittedNow p
+module _ (st : Standing) (codes words s space : List ℕ) (g : Given st words) (a : OpenAnswer) (after : List ℕ) (o : OpensIn words s (admitting (take (st .n) codes)) a after) where
+  -- opening by the refusal that it answers with
+  opening-is : openTender s (admitting (take (st .n) codes)) ≡ (openRefusal a, openTender s (admitting (take (st .n) codes)) .1)
+  unfolding openTender
+  opening-is = λ i. (sym (o .number) i, openTender s (admitting (take (st .n) codes)) .1)
 
-  -- the step by the refusal
-  stepBy : Option ℕ → Step
-  stepBy l = openedStep (viewed p) (l, unlessRefused l noTender (record { terms = termsOf s (admitting codes); state = Open; book = newBook codes }))
+  step-is : (l : Option ℕ) → openRefusal a ≡ l → openedStep (viewed st codes words) (l, openTender s (admitting (take (st .n) codes)) .1) ≡ announcementStep (viewed st codes words) s
+  unfolding announcementStep
+  step-is l e = sym (ap (openedStep (viewed st codes words)) (opening-is ∙ λ i. (e i, openTender s (admitting (take (st .n) codes)) .1)))
 
-  step-is : (l : Option ℕ) → openingRefused s (admitting codes) ≡ l → stepBy l ≡ announcementStep (viewed p) s
-  unfolding announcementStep openTender stepBy
-  step-is l h = sym (ap (λ (x : Option ℕ). openedStep (viewed p) (x, unlessRefused x noTender (record { terms = termsOf s (admitting codes); state = Open; book = newBook codes }))) h)
+  pub announced : isOpened a ≡ true → Takes (announcementStep (viewed st codes words) s) space (record { standing = record { ended = false; opened = true; n = st .n }; length = 0 }) codes after space
+  announced h =
+      let none-there = sym (o .number) ∙ opened-none a h in
+      takes-as (step-is none (opened-none a h))
+      (record {
+        state = λ i. record { ended = false; admission = admitting (all-kept st codes words g i); tender = some (sym (o .tender none-there) i) };
+        lines = nothing space 0;
+        given = record { few = g .few; tender = λ e. o .given none-there };
+      })
 
-  pub announced : isOpened a ≡ true → r .change ≡ change.Opened → r .terms ≡ t → r .length ≡ 0 → Takes (announcementStep (viewed p) s) p s space r space
-  unfolding stepBy
-  announced h c q z =
-      let none-there = none-holds s (admitting codes) a t e h in
-      takes-as (step-is none none-there)
-      (takes-by p g s space r _ change.Opened space c
-      (λ i. record { ended = false; admission = admitting (all-kept p g i); tender = some (record { terms = (sym (terms-open s (admitting codes) a t e h) ∙ ap (λ (x : declared.Terms). terms.viewed x (admitting codes)) (sym q)) i; state = Open; book = newBook codes }) })
-      (few-codes s (admitting codes) none-there) (unwritten space (r .length) z))
-
-  pub not-announced : (left : List ℕ) → isOpened a ≡ false → r .change ≡ change.None → Wrote space 0 (refusedLine (orZero (openRefusal a))) left (r .length) → Takes (announcementStep (viewed p) s) p s space r left
-  unfolding stepBy
-  not-announced left h c w =
-      let n = refused-some a h in
-      takes-as (step-is (some (n .0)) (sym (number s (admitting codes) a t e) ∙ n .1))
-      (takes-nothing p g s space r (refusedLine (n .0)) left c (said (ap (λ (l : Option ℕ). refusedLine (orZero l)) (n .1)) w))
+  -- refused, every word is as it was
+  pub not-announced : (left : List ℕ) (n : ℕ) → isOpened a ≡ false → Wrote space 0 (refusedLine (orZero (openRefusal a))) left n → Takes (announcementStep (viewed st codes words) s) space (record { standing = st; length = n }) codes after left
+  not-announced left n h w =
+      let k = refused-some a h in
+      let same : after ≡ words = o .words ∙ ap (λ (l : Option ℕ). unlessRefused l words (openedNumbers (held (termsOf s (admitting (take (st .n) codes)))) (take (st .n) codes) ++ drop 1496 words)) (sym (o .number) ∙ k .1) in
+      subst (λ (x : List ℕ). Takes (announcementStep (viewed st codes words) s) space (record { standing = st; length = n }) codes x left) (sym same)
+      (takes-as (step-is (some (k .0)) (k .1))
+      (takes-nothing st codes words space (refusedLine (k .0)) left n g (said (ap (λ (l : Option ℕ). refusedLine (orZero l)) (k .1)) w)))

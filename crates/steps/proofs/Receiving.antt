@@ -1,30 +1,21 @@
--- What a reception comes to, as a line of the log and the tender after it, accepted or not. Assumes nothing.
+-- What a reception comes to, as a line of the log and the tender after it. Assumes nothing.
 use mathlib.Core.Path.{_≡_, refl, sym, ap, subst, _∙_}
-use mathlib.Core.Bool.{Bool, true, false, cond}
 use mathlib.Core.List.{List}
 use mathlib.Core.Option.{Option, none, some}
-use Prim.Native.Nat.{ℕ, _-_, _<_}
+use Prim.Native.Nat.{ℕ, _-_}
 use native.Mathlib.Omega.{arith}
 use lib.ListN.{length, take, drop, replicate, length-drop}
 use lib.Seq.{take-all}
-use Rattle.output.specs.Output.{Wrote}
 use Rattle.rules.specs.Receiving.{Reception, Error, Entry, returnedErrors}
 use Rattle.rules.specs.Calls as rules
 use Rattle.rules.specs.Calls.{receivingRefused, reply, answerTo, answerWith, answerUnless, receive}
 use Rattle.errors.specs.Listed.{listed}
 use Rattle.checks.specs.Columns as checks
-use Rattle.log.specs.Steps.{dateOf, timeOf, receptionIn, answerLine, onTender, received}
-use Rattle.bids.specs.Columns.{bidsFrom}
-use Rattle.book.specs.Viewed as book
-use Rattle.outcomes.specs.declared.internal.Accepted.{Accepted}
+use Rattle.log.specs.Steps.{dateOf, timeOf, receptionIn, answerLine, received}
 use Rattle.outcomes.specs.declared.internal.Outcome.{Outcome}
 use Rattle.refusals.specs.Conditions.{refusalNumber}
 use Rattle.outcomes.specs.Answers.{answerIn}
-use Rattle.outcomes.specs.Outcomes.{isHeld, leftBy, Left, ComesTo}
-use Rattle.steps.specs.declared.Change.the-variants as change
-use Rattle.steps.specs.declared.Taken.{Taken}
-use Rattle.steps.specs.Parts.{Parts, tenderIn, viewed, Given, holding, Takes}
-use Rattle.steps.proofs.Taking.{takes-as, takes-left, takes-accepted, on-tender}
+use Rattle.outcomes.specs.Outcomes.{leftBy, Left, ComesTo}
 
 -- the reception of a field, with the message that follows its clock
 pub reception-is : (s m : List ℕ) (date time : ℕ) → m ≡ drop 14 s → date ≡ dateOf s → time ≡ timeOf s → checks.receptionOf m date time (replicate 418 0) ≡ receptionIn s
@@ -75,19 +66,3 @@ module _ (t : rules.Tender) (s m : List ℕ) (date time : ℕ) (o : Outcome) (c 
 
   pub left-told : received s (t) .0 ≡ leftBy (t) o
   left-told = line-and-left .1
-
--- the tender after it: as it was, or with the message
-leftWith : rules.Tender → Outcome → Bool → rules.Tender
-leftWith t o b = record { terms = t .terms; state = t .state; book = cond b (book.replaced (t .book) (o .accepted .at) (o .accepted .time) (bidsFrom (o .accepted .rates) (o .accepted .amounts) 0 10)) (t .book) }
-
-module _ (p : Parts) (g : Given p) (s space left : List ℕ) (r : Taken) (o : Outcome) (open-there : p .opened ≡ true)
-    (told : received s (tenderIn p) .0 ≡ leftBy (tenderIn p) o) (wrote : Wrote space 0 (received s (tenderIn p) .1) left (r .length)) where
-  pub takes-unheld : isHeld o ≡ false → r .change ≡ change.None → Takes (onTender (viewed p) (received s)) p s space r left
-  unfolding leftWith
-  takes-unheld h e = takes-as (on-tender p (received s) open-there) (takes-left p g s space r _ _ left open-there e (told ∙ ap (leftWith (tenderIn p) o) h) wrote)
-
-  pub takes-held : isHeld o ≡ true → r .change ≡ change.Accepted → r .accepted ≡ o .accepted → o .accepted .at < 64 → Takes (onTender (viewed p) (received s)) p s space r left
-  unfolding leftWith
-  takes-held h e q w =
-      takes-as (on-tender p (received s) open-there)
-      (takes-accepted p g s space r _ _ left open-there e (told ∙ ap (leftWith (tenderIn p) o) h ∙ ap (holding (tenderIn p)) (sym q)) (subst (λ (a : Accepted). a .at < 64) (sym q) w) wrote)

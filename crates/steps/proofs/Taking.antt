@@ -3,95 +3,118 @@ use mathlib.Core.Path.{_≡_, refl, sym, ap, subst, _∙_}
 use mathlib.Core.Bool.{Bool, true, false, cond, false≢true}
 use mathlib.Core.List.{List, []}
 use mathlib.Core.Option.{Option, none, some}
-use Prim.Native.Nat.{ℕ, _<_}
+use Prim.Native.Nat.{ℕ}
 use native.Mathlib.Omega.{arith}
 use lib.Dec.{eqb}
 use lib.ListN.{length, take, length-take}
 use lib.Seq.{take-all}
 use borrow.Author.Tests.{eq-eqb, ne-eqb}
 use Rattle.output.specs.Output.{Wrote}
-use Rattle.output.proofs.Output.{nothing}
-use Rattle.envelope.specs.Refusals.{unlessRefused, orZero}
+use Rattle.output.proofs.Output.{nothing, said}
+use Rattle.envelope.specs.Refusals.{orZero}
 use Rattle.rules.specs.Opening.{admitting}
-use Rattle.rules.specs.Calls as rules
+use Rattle.rules.specs.Calls.{Tender}
+use Rattle.buffer.specs.Words.{tenderIn}
 use Rattle.log.specs.Lines.{refusedLine}
-use Rattle.log.specs.Steps.{Log, Step, ending, onTender, refusal}
-use Rattle.refusals.specs.declared.State.{State}
-use Rattle.refusals.specs.Conditions.{isSome, stateOf}
-use Rattle.steps.specs.declared.Change.{Change}
-use Rattle.steps.specs.declared.Change.the-variants as change
+use Rattle.log.specs.Steps.{Log, Step, ending, onTender, refusal, admissionStep, announcementStep, receptionStep, closingStep, revocationStep, allottingStep, step}
+use Rattle.refusals.specs.declared.Refusal.{Refusal}
+use Rattle.refusals.specs.Conditions.{isSome, refusalNumber}
+use Rattle.in_place.specs.InPlace.{ChangesIn}
+use Rattle.steps.specs.declared.Standing.{Standing}
 use Rattle.steps.specs.declared.Taken.{Taken}
-use Rattle.steps.specs.Parts.{Parts, admittedNow, tenderIn, viewed, Given, kept, withTender, holding, after, Possible, Takes}
+use Rattle.steps.specs.Viewed.{viewed, Given, Ready, Takes, Calls, endedAt}
 
 -- the codes that a journal keeps are at most 65
-pub all-kept : (p : Parts) → Given p → take 65 (admittedNow p) ≡ admittedNow p
-all-kept p g = take-all 65 (admittedNow p) (let f = g .few in simp length-take (omega (arith, f)))
-
--- nothing is written
-pub unwritten : (space : List ℕ) (n : ℕ) → n ≡ 0 → Wrote space 0 [] space n
-unwritten space n e = subst (Wrote space 0 [] space) (sym e) (nothing space 0)
-
--- the log with a tender or not
-abbrev logWith : Parts → Bool → Log
-logWith p b = record { ended = false; admission = admitting (admittedNow p); tender = cond b (some (tenderIn p)) none }
-
--- before an accepted A1 a call is skipped; after it the call gives the next tender and the lines
-pub no-tender : (p : Parts) (call : rules.Tender → rules.Tender × List ℕ) → p .opened ≡ false → (viewed p, []) ≡ onTender (viewed p) call
-no-tender p call h = subst (λ (b : Bool). (logWith p b, []) ≡ onTender (logWith p b) call) (sym h) refl
-
-pub on-tender : (p : Parts) (call : rules.Tender → rules.Tender × List ℕ) → p .opened ≡ true → (withTender p (call (tenderIn p) .0), call (tenderIn p) .1) ≡ onTender (viewed p) call
-on-tender p call h = sym (ap (λ (b : Bool). onTender (logWith p b) call) h)
+pub all-kept : (st : Standing) (codes words : List ℕ) → Given st words → take 65 (take (st .n) codes) ≡ take (st .n) codes
+all-kept st codes words g = take-all 65 (take (st .n) codes) (let f = g .few in simp length-take (omega (arith, f)))
 
 -- a field that calls the tender if it has so many bytes, and ends the log if not
-abbrev callOf : ℕ → (rules.Tender → rules.Tender × List ℕ) → Log → List ℕ → Step
+abbrev callOf : ℕ → (Tender → Tender × List ℕ) → Log → List ℕ → Step
 callOf k call l s = cond (eqb (length s) k) (onTender l call) (ending l)
 
-pub other-length : (k : ℕ) (call : rules.Tender → rules.Tender × List ℕ) (l : Log) (s : List ℕ) → (length s ≡ k → ⊥) → ending l ≡ callOf k call l s
+pub other-length : (k : ℕ) (call : Tender → Tender × List ℕ) (l : Log) (s : List ℕ) → (length s ≡ k → ⊥) → ending l ≡ callOf k call l s
 other-length k call l s h = sym (rw (ne-eqb (length s) k h) refl)
 
-pub its-length : (k : ℕ) (call : rules.Tender → rules.Tender × List ℕ) (l : Log) (s : List ℕ) → length s ≡ k → onTender l call ≡ callOf k call l s
+pub its-length : (k : ℕ) (call : Tender → Tender × List ℕ) (l : Log) (s : List ℕ) → length s ≡ k → onTender l call ≡ callOf k call l s
 its-length k call l s h = sym (rw (eq-eqb (length s) k h) refl)
 
 -- the same step under another name
-pub takes-as : {expected other : Step} {p : Parts} {s space left : List ℕ} {r : Taken} → expected ≡ other → Takes expected p s space r left → Takes other p s space r left
-takes-as {p = p} {s = s} {space = space} {left = left} {r = r} e t = subst (λ (x : Step). Takes x p s space r left) e t
+pub takes-as : {expected other : Step} {space codes words left : List ℕ} {r : Taken} → expected ≡ other → Takes expected space r codes words left → Takes other space r codes words left
+takes-as {space = space} {codes = codes} {words = words} {left = left} {r = r} e t = subst (λ (x : Step). Takes x space r codes words left) e t
 
-module _ (p : Parts) (g : Given p) (s space : List ℕ) (r : Taken) where
-  -- by the change that a field makes
-  pub takes-by : (expected : Step) (c : Change) (left : List ℕ) → r .change ≡ c → kept (expected .0) ≡ after p s (r .terms) (r .accepted) c → Possible p s (r .accepted) c
-      → Wrote space 0 (expected .1) left (r .length) → Takes expected p s space r left
-  takes-by expected c left e k can w =
+-- a field of a log that has not ended, by its tag
+abbrev byTag : Log → ℕ → List ℕ → Step
+byTag l tag s =
+    cond (eqb tag 0xA0) (admissionStep l s)
+    (cond (eqb tag 0xA1) (announcementStep l s)
+    (cond (eqb tag 0xA2) (receptionStep l s)
+    (cond (eqb tag 0xA3) (closingStep l s)
+    (cond (eqb tag 0xA4) (revocationStep l s)
+    (cond (eqb tag 0xA5) (allottingStep l s)
+    (ending l))))))
+
+pub stepped : (l : Log) (tag : ℕ) (s : List ℕ) → l .ended ≡ false → (expected : Step) → byTag l tag s ≡ expected → expected ≡ step l tag s
+unfolding step
+stepped l tag s e expected h = sym (ap (λ (b : Bool). cond b (l, []) (byTag l tag s)) e ∙ h)
+
+-- the log with so many codes, ended or not, and with a tender or not
+abbrev logOf : List ℕ → Bool → Option Tender → Log
+logOf codes ended tender = record { ended = ended; admission = admitting codes; tender = tender }
+
+-- the tender by whether there is one
+abbrev there : List ℕ → Bool → Option Tender
+there words b = cond b (some (tenderIn words)) none
+
+module _ (st : Standing) (codes words space : List ℕ) where
+  pub takes-ended : (r : Taken) → r ≡ endedAt st → Given st words → Takes (ending (viewed st codes words)) space r codes words space
+  takes-ended r e g =
+      subst (λ (x : Taken). Takes (ending (viewed st codes words)) space x codes words space) (sym e)
+      (record {
+        state = λ i. logOf (all-kept st codes words g i) true (there words (st .opened));
+        lines = nothing space 0;
+        given = record { few = g .few; tender = g .tender };
+      })
+
+  pub takes-nothing : (text left : List ℕ) (n : ℕ) → Given st words → Wrote space 0 text left n → Takes (viewed st codes words, text) space (record { standing = st; length = n }) codes words left
+  takes-nothing text left n g w =
       record {
-        state = k ∙ ap (after p s (r .terms) (r .accepted)) (sym e);
+        state = λ i. logOf (all-kept st codes words g i) (st .ended) (there words (st .opened));
         lines = w;
-        can = subst (Possible p s (r .accepted)) (sym e) can;
+        given = g;
       }
 
-  pub takes-ended : r .change ≡ change.Ended → r .length ≡ 0 → Takes (ending (viewed p)) p s space r space
-  takes-ended e z = takes-by (ending (viewed p)) change.Ended space e (λ i. record { ended = true; admission = admitting (all-kept p g i); tender = viewed p .tender }) tt (unwritten space (r .length) z)
+  -- before an accepted A1 a call is skipped
+  pub takes-skipped : (call : Tender → Tender × List ℕ) → Given st words → st .opened ≡ false → Takes (onTender (viewed st codes words) call) space (record { standing = st; length = 0 }) codes words space
+  takes-skipped call g h =
+      let l = take (st .n) codes in
+      let skipped : (viewed st codes words, []) ≡ onTender (viewed st codes words) call =
+      subst (λ (b : Bool). (logOf l (st .ended) (there words b), []) ≡ onTender (logOf l (st .ended) (there words b)) call) (sym h) refl in
+      takes-as skipped (takes-nothing [] space 0 g (nothing space 0))
 
-  pub takes-nothing : (text left : List ℕ) → r .change ≡ change.None → Wrote space 0 text left (r .length) → Takes (viewed p, text) p s space r left
-  takes-nothing text left e w = takes-by (viewed p, text) change.None left e (λ i. record { ended = false; admission = admitting (all-kept p g i); tender = viewed p .tender }) tt w
+  -- after it the call gives the next tender and the lines
+  pub takes-called : (call : Tender → Tender × List ℕ) (after left : List ℕ) (n : ℕ) → Ready st words → st .opened ≡ true → Calls call words space after n left
+      → Takes (onTender (viewed st codes words) call) space (record { standing = st; length = n }) codes after left
+  takes-called call after left n r h c =
+      let l = take (st .n) codes in
+      let called : (logOf l false (some (call (tenderIn words) .0)), call (tenderIn words) .1) ≡ onTender (viewed st codes words) call = sym (ap (λ (b : Bool). onTender (logOf l (st .ended) (there words b)) call) h) in
+      takes-as called
+      (record {
+        state =
+            (λ i. logOf (all-kept st codes words (r .given) i) false (some (c .tender-is i)))
+            ∙ (λ i. logOf l (sym (r .unended) i) (sym (ap (there after) h) i));
+        lines = c .lines;
+        given = record { few = r .given .few; tender = λ e. c .given };
+      })
 
-  pub takes-skipped : r .change ≡ change.None → r .length ≡ 0 → Takes (viewed p, []) p s space r space
-  takes-skipped e z = takes-nothing [] space e (unwritten space (r .length) z)
-
-  -- a call that leaves the tender as it is
-  pub takes-left : (t : rules.Tender) (text left : List ℕ) → p .opened ≡ true → r .change ≡ change.None → t ≡ tenderIn p → Wrote space 0 text left (r .length) → Takes (withTender p t, text) p s space r left
-  takes-left t text left o e q w =
-      takes-as (λ i. (record { ended = false; admission = admitting (admittedNow p); tender = (ap (λ (b : Bool). cond b (some (tenderIn p)) none) o ∙ ap some (sym q)) i }, text)) (takes-nothing text left e w)
-
-  -- a message that is accepted
-  pub takes-accepted : (t : rules.Tender) (text left : List ℕ) → p .opened ≡ true → r .change ≡ change.Accepted → t ≡ holding (tenderIn p) (r .accepted) → r .accepted .at < 64 → Wrote space 0 text left (r .length)
-      → Takes (withTender p t, text) p s space r left
-  takes-accepted t text left o e q h w = takes-by (withTender p t, text) change.Accepted left e (λ i. record { ended = false; admission = admitting (all-kept p g i); tender = some (q i) }) (o, h) w
-
-  -- a call that is refused, or puts the tender into a state
-  pub takes-state : (x : State) (l : Option ℕ) (text left : List ℕ) → p .opened ≡ true → r .change ≡ unlessRefused l change.None (change.InState x) → Wrote space 0 text left (r .length)
-      → Takes (withTender p (unlessRefused l (tenderIn p) (rules.inState (stateOf x) (tenderIn p))), text) p s space r left
-  takes-state x none text left o e w =
-      takes-by (withTender p (rules.inState (stateOf x) (tenderIn p)), text) (change.InState x) left e (λ i. record { ended = false; admission = admitting (all-kept p g i); tender = some (rules.inState (stateOf x) (tenderIn p)) }) o w
-  takes-state x (some n) text left o e w = takes-left (tenderIn p) text left o e refl w
+-- a call that is refused, or puts the tender into a state
+pub called-by : (call : Tender → Option ℕ × Tender) (words after space left : List ℕ) (n : ℕ) (r : Refusal) (w : ℕ) → ChangesIn words (call (tenderIn words)) w r after → Wrote space 0 (refusal (refusalNumber r)) left n
+    → Calls (λ (t : Tender). (call t .1, refusal (call t .0))) words space after n left
+called-by call words after space left n r w c wrote =
+    record {
+      tender-is = sym (ap (λ (p : Option ℕ × Tender). p .1) (c .equal));
+      lines = said (ap (λ (p : Option ℕ × Tender). refusal (p .0)) (c .equal)) wrote;
+      given = c .given;
+    }
 
 -- the line of a refusal, and none where there is none
 pub refusal-some : (l : Option ℕ) → isSome l ≡ true → refusedLine (orZero l) ≡ refusal l

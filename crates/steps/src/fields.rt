@@ -1,244 +1,221 @@
-// One kind of field each: what it changes and its lines.
-use crate::Change;
+// One kind of field each: what it makes of the codes and the words, and its lines.
+use crate::Standing;
 use crate::Taken;
 use crate::internal::put_answer;
 use award_lines::internal::put_awards;
-use book::up_to_64;
+use buffer_opening::internal::open_in;
 use digits::all_digits;
+use in_place::internal::allot_in;
+use in_place::internal::close_in;
+use in_place::internal::leave_in;
+use in_place::internal::outcome_in;
+use in_place::internal::revoke_in;
 use lines::internal::put_refused;
-use outcomes::internal::allot_bids;
-use outcomes::internal::is_held;
-use outcomes::internal::nothing_accepted;
-use outcomes::internal::outcome_of;
 use refusals::Refusal;
-use refusals::State;
-use refusals::close_refusal;
 use refusals::is_refused;
-use refusals::revoke_refusal;
+use session_fields::internal::codes_in;
 use session_fields::internal::date_of;
 use session_fields::internal::time_of;
 use session_fields::internal::up_to_65;
-use terms::Terms;
 use terms::is_opened;
-use terms::no_terms;
 use terms::number_of_answer;
 ghost use mathlib.Core.Path.{_≡_};
-ghost use mathlib.Core.Bool.{Bool, true};
+ghost use mathlib.Core.Bool.{true};
 ghost use mathlib.Core.List.{List};
-ghost use Rattle.envelope.specs.Refusals.{unlessRefused};
 ghost use Prim.Native.Nat.{ℕ, _≤_};
 ghost use lib.ListN.{length, take};
-ghost use Rattle.rules.specs.Opening.{rising};
 ghost use Rattle.output.specs.Output.{Wrote};
-ghost use Rattle.terms.specs.declared.Terms.{Terms};
-ghost use Rattle.book.specs.declared.Book.{Book};
-ghost use Rattle.book.specs.Viewed.{bookOf, Lends, Full, upTo64};
-ghost use Rattle.refusals.specs.declared.State.{State};
 ghost use Rattle.refusals.specs.Conditions.{refusalNumber};
-ghost use Rattle.outcomes.specs.Outcomes.{viewedOf};
-ghost use Rattle.log.specs.Steps as steps;
-ghost use Rattle.log.specs.Steps.{ending, admissionStep, announcementStep, receptionStep, closingStep, revocationStep, allottingStep};
-ghost use Rattle.steps.specs.declared.Change.the-variants as change;
-ghost use Rattle.steps.specs.Parts.{Parts, parts, viewed, Given, Takes, PutsAllotment};
+ghost use Rattle.buffer.specs.Words.{tenderIn, isTender};
+ghost use Rattle.log.specs.Steps.{refusal, allotted, admissionStep, announcementStep, receptionStep, closingStep, revocationStep, allottingStep};
+ghost use Rattle.steps.specs.Viewed.{viewed, Given, Ready, Takes, Calls, endedAt};
 
-// Lines of a length, and a change that needs neither terms nor a message.
-fn with_change(length: usize, change: Change) -> Taken
-    ensures { λ r. ⌜ (r .length ≡ length) × (r .change ≡ change) ⌝ }
+// A field that ends the log.
+pub fn ended(standing: Standing) -> Taken
+    ensures { λ r. ⌜ r ≡ endedAt standing ⌝ }
 {
     Taken {
-        length,
-        change,
-        terms: no_terms(),
-        accepted: nothing_accepted(),
+        standing: Standing {
+            ended: true,
+            opened: standing.opened,
+            n: standing.n,
+        },
+        length: 0,
     }
 }
 
-// A field that ends the log.
-pub fn ended() -> Taken
-    ensures { λ r. ⌜ ((p : Parts) (s space : List ℕ) → Given p → Takes (ending (viewed p)) p s space r space) ⌝ }
+// Puts codes over the first ones.
+fn put_codes(codes: &mut [u32], first: &[u32])
+    requires { ⌜ length (now first) ≤ length (now codes) ⌝ }
+    ensures { λ _. ⌜ take (length (now (first .entry))) (now (codes .exit)) ≡ now (first .entry) ⌝ }
 {
-    with_change(0, Change::Ended)
+    let mut i = 0;
+    while i < first.len() {
+        codes[i] = first[i];
+        i += 1;
+    }
 }
 
 // A0: the codes admitted to the next tender.
-pub fn admission(s: &[u8]) -> Taken
-    ensures { λ r. ⌜ ((p : Parts) (space : List ℕ) → Given p → Takes (admissionStep (viewed p) (now (s .entry))) p (now (s .entry)) space r space) ⌝ }
+pub fn admission(standing: Standing, codes: &mut [u32], s: &[u8]) -> Taken
+    requires { ⌜ length (now codes) ≡ 65 ⌝ }
+    ensures { λ r. ⌜ ((words space : List ℕ) → Given standing words → Takes (admissionStep (viewed standing (now (codes .entry)) words) (now (s .entry))) space r (now (codes .exit)) words space) ⌝ }
 {
     if (s.len() % 5 == 0) & all_digits(s) {
         let n = up_to_65(s.len() / 5);
-        return with_change(0, Change::Admitted(n));
+        let admitted = codes_in(s, n);
+        put_codes(codes, &admitted[0..n]);
+        return Taken {
+            standing: Standing {
+                ended: false,
+                opened: standing.opened,
+                n,
+            },
+            length: 0,
+        };
     }
-    with_change(0, Change::Ended)
+    ended(standing)
 }
 
 // A1: an announcement.
-pub fn announcement(codes: [u32; 65], n: usize, s: &[u8], space: &mut [u8]) -> Taken
-    requires { ⌜ n ≤ 65 ⌝ }
-    requires { ⌜ 11 ≤ length (now space) ⌝ }
-    ensures { λ r. ⌜ ((opened : Bool) (state : State) (terms : Terms) (book : Book) → Given (parts opened codes n state terms book) → Takes (announcementStep (viewed (parts opened codes n state terms book)) (now (s .entry))) (parts opened codes n state terms book) (now (s .entry)) (now (space .entry)) r (now (space .exit))) ⌝ }
+pub fn announcement(
+    standing: Standing,
+    codes: &[u32],
+    words: &mut [u64],
+    s: &[u8],
+    space: &mut [u8],
+) -> Taken
+    requires { ⌜ Ready standing (now words) ⌝ }
+    requires { ⌜ (length (now codes) ≡ 65) × (1496 ≤ length (now words)) × (11 ≤ length (now space)) ⌝ }
+    ensures { λ r. ⌜ Takes (announcementStep (viewed standing (now (codes .entry)) (now (words .entry))) (now (s .entry))) (now (space .entry)) r (now (codes .entry)) (now (words .exit)) (now (space .exit)) ⌝ }
 {
-    let opening = terms::open(s, &codes[0..n]);
-    let answer = opening.answer;
+    let n = standing.n;
+    let answer = open_in(words, s, &codes[0..n]);
     if is_opened(answer) {
-        let terms = opening.terms;
         return Taken {
+            standing: Standing {
+                ended: false,
+                opened: true,
+                n,
+            },
             length: 0,
-            change: Change::Opened,
-            terms,
-            accepted: nothing_accepted(),
         };
     }
     let length = put_refused(space, number_of_answer(answer));
-    with_change(length, Change::None)
+    Taken { standing, length }
 }
 
 // A2: a reception.
-pub fn reception<'a>(
-    opened: bool,
-    state: State,
-    terms: Terms,
-    k: usize,
-    admitted: &'a [u32],
-    held: &'a [u64],
-    has: &'a [bool],
-    s: &[u8],
-    space: &mut [u8],
-) -> Taken
-    requires { ⌜ Full (now admitted) (now held) (now has) ⌝ }
-    requires { ⌜ rising (take (upTo64 k) (now admitted)) ≡ true ⌝ }
+pub fn reception(standing: Standing, words: &mut [u64], s: &[u8], space: &mut [u8]) -> Taken
+    requires { ⌜ Ready standing (now words) ⌝ }
     requires { ⌜ 74 ≤ length (now space) ⌝ }
-    ensures { λ r. ⌜ ((codes : List ℕ) (n : ℕ) (book : Book) → Lends book k (now (admitted .entry)) (now (held .entry)) (now (has .entry)) → Given (parts opened codes n state terms book) → Takes (receptionStep (viewed (parts opened codes n state terms book)) (now (s .entry))) (parts opened codes n state terms book) (now (s .entry)) (now (space .entry)) r (now (space .exit))) ⌝ }
+    ensures { λ r. ⌜ ((codes : List ℕ) → Takes (receptionStep (viewed standing codes (now (words .entry))) (now (s .entry))) (now (space .entry)) r codes (now (words .exit)) (now (space .exit))) ⌝ }
 {
     if s.len() < 14 {
-        return with_change(0, Change::Ended);
+        return ended(standing);
     }
+    let opened = standing.opened;
     if !opened {
-        return with_change(0, Change::None);
+        return Taken {
+            standing,
+            length: 0,
+        };
     }
     let m = &s[14..s.len()];
-    let outcome = outcome_of(
-        state,
-        terms,
-        k,
-        admitted,
-        held,
-        has,
-        m,
-        date_of(s),
-        time_of(s),
-        418,
-    );
+    let outcome = outcome_in(words, m, date_of(s), time_of(s), 418);
     let refusal = outcome.refusal;
     let errors = outcome.errors;
     let length = put_answer(space, s, m, refusal, errors);
-    if is_held(outcome) {
-        let accepted = outcome.accepted;
-        return Taken {
-            length,
-            change: Change::Accepted,
-            terms: no_terms(),
-            accepted,
-        };
-    }
-    with_change(length, Change::None)
+    leave_in(words, outcome);
+    Taken { standing, length }
 }
 
-// A call that is refused has a line; one that is not puts the tender into a state.
-fn put_into(state: State, refusal: Refusal, space: &mut [u8]) -> Taken
+// Writes the line of a refusal; where a call is not refused there is none.
+fn put_refusal(space: &mut [u8], r: Refusal) -> usize
     requires { ⌜ 11 ≤ length (now space) ⌝ }
-    ensures { λ r. ⌜ Wrote (now (space .entry)) 0 (steps.refusal (refusalNumber refusal)) (now (space .exit)) (r .length) × (r .change ≡ unlessRefused (refusalNumber refusal) change.None (change.InState state)) ⌝ }
+    ensures { λ n. ⌜ Wrote (now (space .entry)) 0 (refusal (refusalNumber r)) (now (space .exit)) n ⌝ }
 {
-    if is_refused(refusal) {
-        let length = put_refused(space, refusals::number_of(refusal));
-        return with_change(length, Change::None);
+    if is_refused(r) {
+        return put_refused(space, refusals::number_of(r));
     }
-    with_change(0, Change::InState(state))
+    0
 }
 
 // A3: closing.
-pub fn closing(opened: bool, state: State, terms: Terms, s: &[u8], space: &mut [u8]) -> Taken
+pub fn closing(standing: Standing, words: &mut [u64], s: &[u8], space: &mut [u8]) -> Taken
+    requires { ⌜ Ready standing (now words) ⌝ }
     requires { ⌜ 11 ≤ length (now space) ⌝ }
-    ensures { λ r. ⌜ ((codes : List ℕ) (n : ℕ) (book : Book) → Given (parts opened codes n state terms book) → Takes (closingStep (viewed (parts opened codes n state terms book)) (now (s .entry))) (parts opened codes n state terms book) (now (s .entry)) (now (space .entry)) r (now (space .exit))) ⌝ }
+    ensures { λ r. ⌜ ((codes : List ℕ) → Takes (closingStep (viewed standing codes (now (words .entry))) (now (s .entry))) (now (space .entry)) r codes (now (words .exit)) (now (space .exit))) ⌝ }
 {
     if s.len() != 14 {
-        return with_change(0, Change::Ended);
+        return ended(standing);
     }
-    if !opened {
-        return with_change(0, Change::None);
+    if !standing.opened {
+        return Taken {
+            standing,
+            length: 0,
+        };
     }
-    let refusal = close_refusal(state, terms, date_of(s), time_of(s));
-    put_into(State::Closed, refusal, space)
+    let refusal = close_in(words, date_of(s), time_of(s));
+    let length = put_refusal(space, refusal);
+    Taken { standing, length }
 }
 
 // A4: revocation.
-pub fn revocation(opened: bool, state: State, s: &[u8], space: &mut [u8]) -> Taken
+pub fn revocation(standing: Standing, words: &mut [u64], s: &[u8], space: &mut [u8]) -> Taken
+    requires { ⌜ Ready standing (now words) ⌝ }
     requires { ⌜ 11 ≤ length (now space) ⌝ }
-    ensures { λ r. ⌜ ((codes : List ℕ) (n : ℕ) (terms : Terms) (book : Book) → Given (parts opened codes n state terms book) → Takes (revocationStep (viewed (parts opened codes n state terms book)) (now (s .entry))) (parts opened codes n state terms book) (now (s .entry)) (now (space .entry)) r (now (space .exit))) ⌝ }
+    ensures { λ r. ⌜ ((codes : List ℕ) → Takes (revocationStep (viewed standing codes (now (words .entry))) (now (s .entry))) (now (space .entry)) r codes (now (words .exit)) (now (space .exit))) ⌝ }
 {
     if s.len() != 0 {
-        return with_change(0, Change::Ended);
+        return ended(standing);
     }
-    if !opened {
-        return with_change(0, Change::None);
+    if !standing.opened {
+        return Taken {
+            standing,
+            length: 0,
+        };
     }
-    let refusal = revoke_refusal(state);
-    put_into(State::Revoked, refusal, space)
+    let refusal = revoke_in(words);
+    let length = put_refusal(space, refusal);
+    Taken { standing, length }
 }
 
 // Allots and writes the lines of the awards, or that of the refusal.
-fn put_allotment<'a>(
-    state: State,
-    terms: Terms,
-    k: usize,
-    admitted: &'a [u32],
-    rates: &'a [u32],
-    amounts: &'a [u64],
-    space: &mut [u8],
-) -> Taken
-    requires { ⌜ (length (now admitted) ≡ 64) × (length (now rates) ≡ 640) × (length (now amounts) ≡ 640) ⌝ }
-    requires { ⌜ 23040 ≤ length (now space) ⌝ }
-    ensures { λ r. ⌜ ((held : List ℕ) (has : List Bool) → PutsAllotment (viewedOf state terms (bookOf k (now (admitted .entry)) held has (now (rates .entry)) (now (amounts .entry)))) (now (space .entry)) r (now (space .exit))) ⌝ }
+fn put_allotment(words: &mut [u64], space: &mut [u8]) -> usize
+    requires { ⌜ (isTender (now words) ≡ true) × (23040 ≤ length (now space)) ⌝ }
+    ensures { λ n. ⌜ Calls allotted (now (words .entry)) (now (space .entry)) (now (words .exit)) n (now (space .exit)) ⌝ }
 {
-    let n = up_to_64(k);
-    let end = 10 * n;
     let mut awards = [0u64; 640];
-    let answer = allot_bids(
-        state,
-        terms,
-        &rates[0..end],
-        &amounts[0..end],
-        &mut awards[0..end],
-    );
+    let answer = allot_in(words, &mut awards);
     let refusal = answer.refusal;
     if is_refused(refusal) {
-        let length = put_refused(space, refusals::number_of(refusal));
-        return with_change(length, Change::None);
+        return put_refused(space, refusals::number_of(refusal));
     }
-    let length = put_awards(space, &admitted[0..n], &rates[0..end], &awards[0..end]);
-    with_change(length, Change::InState(State::Announced))
+    let n = words[2] as usize;
+    put_awards(
+        space,
+        &words[24..24 + n],
+        &words[216..216 + 10 * n],
+        &awards[0..10 * n],
+    )
 }
 
 // A5: allotment.
-pub fn allotting<'a>(
-    opened: bool,
-    state: State,
-    terms: Terms,
-    k: usize,
-    admitted: &'a [u32],
-    rates: &'a [u32],
-    amounts: &'a [u64],
-    s: &[u8],
-    space: &mut [u8],
-) -> Taken
-    requires { ⌜ (length (now admitted) ≡ 64) × (length (now rates) ≡ 640) × (length (now amounts) ≡ 640) ⌝ }
+pub fn allotting(standing: Standing, words: &mut [u64], s: &[u8], space: &mut [u8]) -> Taken
+    requires { ⌜ Ready standing (now words) ⌝ }
     requires { ⌜ 23040 ≤ length (now space) ⌝ }
-    ensures { λ r. ⌜ ((codes : List ℕ) (n : ℕ) (held : List ℕ) (has : List Bool) → (let p = parts opened codes n state terms (bookOf k (now (admitted .entry)) held has (now (rates .entry)) (now (amounts .entry))) in Given p → Takes (allottingStep (viewed p) (now (s .entry))) p (now (s .entry)) (now (space .entry)) r (now (space .exit)))) ⌝ }
+    ensures { λ r. ⌜ ((codes : List ℕ) → Takes (allottingStep (viewed standing codes (now (words .entry))) (now (s .entry))) (now (space .entry)) r codes (now (words .exit)) (now (space .exit))) ⌝ }
 {
     if s.len() != 0 {
-        return with_change(0, Change::Ended);
+        return ended(standing);
     }
-    if !opened {
-        return with_change(0, Change::None);
+    if !standing.opened {
+        return Taken {
+            standing,
+            length: 0,
+        };
     }
-    put_allotment(state, terms, k, admitted, rates, amounts, space)
+    let length = put_allotment(words, space);
+    Taken { standing, length }
 }

@@ -1,4 +1,5 @@
 // The line of a reception, and one field of any kind.
+use crate::Standing;
 use crate::Taken;
 use crate::fields::admission;
 use crate::fields::allotting;
@@ -12,9 +13,7 @@ use lines::internal::put_confirmed;
 use lines::internal::put_refused;
 use lines::internal::put_returned;
 use refusals::Refusal;
-use refusals::State;
 use refusals::is_refused;
-use terms::Terms;
 ghost use mathlib.Core.Path.{_≡_};
 ghost use mathlib.Core.Bool.{true};
 ghost use mathlib.Core.Option.{none};
@@ -23,12 +22,11 @@ ghost use lib.ListN.{length, drop};
 ghost use Rattle.output.specs.Output.{Wrote};
 ghost use Rattle.layout.specs.Fields.{readable};
 ghost use Rattle.envelope.specs.Application.{layout6G1};
-ghost use Rattle.book.specs.Viewed.{bookOf, Full};
 ghost use Rattle.errors.specs.Listed.{listed};
 ghost use Rattle.refusals.specs.Conditions.{refusalNumber};
 ghost use Rattle.outcomes.specs.Answers.{answerIn};
 ghost use Rattle.log.specs.Steps.{answerLine, step};
-ghost use Rattle.steps.specs.Parts.{parts, viewed, Given, Takes};
+ghost use Rattle.steps.specs.Viewed.{viewed, Ready, Takes};
 
 // Writes the line of a reception.
 pub fn put_answer(space: &mut [u8], s: &[u8], m: &[u8], r: Refusal, e: Errors) -> usize
@@ -47,35 +45,26 @@ pub fn put_answer(space: &mut [u8], s: &[u8], m: &[u8], r: Refusal, e: Errors) -
 }
 
 // Takes one field, its tag and contents, and writes its lines at the start of the space, which has room for 640 of them.
-// The first n of codes are those of the last A0; the first k of admitted are the tender's, and the slices after it are the other columns of its book.
-pub fn step<'a>(
-    opened: bool,
-    codes: [u32; 65],
-    n: usize,
-    state: State,
-    terms: Terms,
-    k: usize,
-    admitted: &'a [u32],
-    held: &'a [u64],
-    has: &'a [bool],
-    rates: &'a [u32],
-    amounts: &'a [u64],
+// The first n of the codes are those of the last A0; the words are those of the tender, if there is one.
+pub fn step(
+    standing: Standing,
+    codes: &mut [u32],
+    words: &mut [u64],
     tag: u8,
     s: &[u8],
     space: &mut [u8],
 ) -> Taken
-    requires { ⌜ Full (now admitted) (now held) (now has) × (length (now rates) ≡ 640) × (length (now amounts) ≡ 640) ⌝ }
-    requires { ⌜ Given (parts opened codes n state terms (bookOf k (now admitted) (now held) (now has) (now rates) (now amounts))) ⌝ }
-    requires { ⌜ 23040 ≤ length (now space) ⌝ }
-    ensures { λ r. ⌜ (let p = parts opened codes n state terms (bookOf k (now (admitted .entry)) (now (held .entry)) (now (has .entry)) (now (rates .entry)) (now (amounts .entry))) in Takes (step (viewed p) tag (now (s .entry))) p (now (s .entry)) (now (space .entry)) r (now (space .exit))) ⌝ }
+    requires { ⌜ Ready standing (now words) ⌝ }
+    requires { ⌜ (length (now codes) ≡ 65) × (length (now words) ≡ 1496) × (23040 ≤ length (now space)) ⌝ }
+    ensures { λ r. ⌜ Takes (step (viewed standing (now (codes .entry)) (now (words .entry))) tag (now (s .entry))) (now (space .entry)) r (now (codes .exit)) (now (words .exit)) (now (space .exit)) ⌝ }
 {
     match tag {
-        0xA0 => admission(s),
-        0xA1 => announcement(codes, n, s, space),
-        0xA2 => reception(opened, state, terms, k, admitted, held, has, s, space),
-        0xA3 => closing(opened, state, terms, s, space),
-        0xA4 => revocation(opened, state, s, space),
-        0xA5 => allotting(opened, state, terms, k, admitted, rates, amounts, s, space),
-        _ => ended(),
+        0xA0 => admission(standing, codes, s),
+        0xA1 => announcement(standing, codes, words, s, space),
+        0xA2 => reception(standing, words, s, space),
+        0xA3 => closing(standing, words, s, space),
+        0xA4 => revocation(standing, words, s, space),
+        0xA5 => allotting(standing, words, s, space),
+        _ => ended(standing),
     }
 }

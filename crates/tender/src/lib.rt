@@ -1,17 +1,21 @@
 // The calls on a tender: each takes it by value and gives back the next one with the answer.
-pub mod internal;
-
 use book::Book;
 use book::amounts_of;
-use book::columns_of;
+use book::cents_of;
+use book::internal::find_in;
+use book::internal::takes_at;
 use book::new_book;
+use book::numbers_of;
 use book::up_to_64;
 use errors::Errors;
 use errors::none;
 use marginal::MarginalRate;
+use outcomes::internal::Outcome;
 use outcomes::internal::allot_bids;
 use outcomes::internal::held_in;
-use outcomes::internal::outcome_of;
+use outcomes::internal::judged;
+use outcomes::internal::receiving_checks;
+use outcomes::internal::refused_with;
 use places::Amount;
 use reception::internal::put_reply;
 pub use refusals::Refusal;
@@ -30,6 +34,7 @@ ghost use Rattle.rules.specs.Calls.{receive, close, revoke};
 ghost use Rattle.errors.specs.Listed.{listed};
 ghost use Rattle.checks.specs.Columns.{receptionOf};
 ghost use Rattle.refusals.specs.Conditions.{stateOf, refusalNumber};
+ghost use Rattle.outcomes.specs.Outcomes.{ComesTo};
 ghost use Rattle.tender.specs.Viewed.{viewed, Given, inStateOf};
 ghost use Rattle.tender.specs.Calls.{Opens, Receives, Changes, Allots};
 ghost use Rattle.tender.specs.Parts.{changedUnless};
@@ -108,6 +113,32 @@ fn in_state(t: Tender, state: State) -> Tender
     Tender { state, terms, book }
 }
 
+// What the reception of a message comes to, with so much room for the reply.
+fn outcome_of(t: Tender, m: &[u8], date: u64, time: u64, room: usize) -> Outcome
+    requires { ⌜ Given t ⌝ }
+    ensures { λ r. ⌜ ComesTo (viewed t) (now (m .entry)) date time room r ⌝ }
+{
+    let state = t.state;
+    let terms = t.terms;
+    let book = t.book;
+    let checked = receiving_checks(state, m, date, time, room);
+    let refusal = checked.refusal;
+    if is_refused(refusal) {
+        return refused_with(refusal);
+    }
+    let fields = checked.fields;
+    let sender = fields.sender;
+    let reference = fields.time;
+    // Copied by themselves, since a book that lends a part of itself is copied whole.
+    let codes = book.codes;
+    let held = book.held;
+    let has = book.has;
+    let found = find_in(&codes, book.n, digits::number_of(sender));
+    let sent = digits::number_of(reference);
+    let taken = takes_at(&held, &has, found, sent);
+    judged(terms, found, taken, m, fields, date, time)
+}
+
 // A reception refused: no errors, no reply and the tender as it was.
 fn unreceived(t: Tender, refusal: Refusal) -> Received
     ensures { λ r. ⌜ (r .refusal ≡ refusal) × (listed (r .errors) ≡ []) × (r .errors .n ≡ 0) × (r .length ≡ 0) × (r .tender ≡ t) ⌝ }
@@ -161,30 +192,15 @@ impl Tender {
         requires { ⌜ Given self ⌝ }
         ensures { λ r. ⌜ Receives self (receive (viewed self) (receptionOf (now (m .entry)) date time (now (space .entry)))) r (now (space .exit)) ⌝ }
     {
-        let state = self.state;
-        let terms = self.terms;
-        let book = self.book;
-        // Copied by themselves, since a book that lends a part of itself is copied whole.
-        let codes = book.codes;
-        let held = book.held;
-        let has = book.has;
-        let o = outcome_of(
-            state,
-            terms,
-            book.n,
-            &codes,
-            &held,
-            &has,
-            m,
-            date,
-            time,
-            space.len(),
-        );
+        let o = outcome_of(self, m, date, time, space.len());
         let refusal = o.refusal;
         if is_refused(refusal) {
             return unreceived(self, refusal);
         }
         let errors = o.errors;
+        let state = self.state;
+        let terms = self.terms;
+        let book = self.book;
         let length = put_reply(space, m, terms, time, errors);
         let next = held_in(book, o);
         Received {
@@ -218,9 +234,10 @@ impl Tender {
         let state = self.state;
         let terms = self.terms;
         let book = self.book;
-        let columns = columns_of(book);
-        let rates = columns.rates;
-        let amounts = columns.amounts;
+        let held_rates = book.rates;
+        let held_amounts = book.amounts;
+        let rates = numbers_of(held_rates);
+        let amounts = cents_of(held_amounts);
         let end = 10 * up_to_64(book.n);
         let mut cents = [0u64; 640];
         let answer = allot_bids(

@@ -1,19 +1,22 @@
 -- `award_lines::internal::put_awards` meets its contract. The loop's invariant: the lines of the first i awards are written. Assumes nothing.
-use mathlib.Core.Path.{_≡_, refl}
+use borrow.Author.Needs.{needs}
+use mathlib.Core.Path.{_≡_, refl, _∙_}
+use mathlib.Core.List.{map}
 use Prim.Native.Nat.{_*_, _-_, _≤_}
 use native.Mathlib.Omega.{arith}
 use denote.Ref.{now}
-use lib.ListN.{length}
+use lib.ListN.{length, length-map}
 use Rattle.output.specs.Output.{Wrote}
 use Rattle.output.proofs.Output.{then, said, nothing}
-use Rattle.award_lines.proofs.Places.{lineAt, linesFrom, lines-more, lines-viewed}
+use Rattle.buffer.specs.Words.{low32}
+use Rattle.award_lines.proofs.Places.{linesFrom, lines-more, line-narrowed, lines-viewed}
 use Rattle.award_lines.proofs.internal.put_awards.Statement.{statement}
 use Rattle.award_lines.proofs.internal.put_awards.Tie as tie
 
 abbrev Inv-loop : tie.InvT-loop
 Inv-loop space₀ codes rates awards at₀ i₀ space at i =
     (i ≤ length awards) × (length rates ≡ 10 * length codes) × (length awards ≡ 10 * length codes) × (36 * length awards ≤ length space₀)
-    × (length space ≡ length space₀) × (at ≤ 36 * i) × Wrote space₀ 0 (linesFrom codes rates awards 0 i) space at
+    × (length space ≡ length space₀) × (at ≤ 36 * i) × Wrote space₀ 0 (linesFrom codes (map low32 rates) awards 0 i) space at
 
 abbrev μ-loop : tie.MeasureT-loop
 μ-loop space₀ codes rates awards at₀ i₀ space at i = length awards - i
@@ -30,11 +33,14 @@ mul-code c = omega arith
 shared-slice-read-code : tie.Need-shared-slice-read-code Inv-loop μ-loop
 shared-slice-read-code c = omega arith
 
-mul-t10 : tie.Need-mul-t10 Inv-loop μ-loop
-mul-t10 c = omega arith
+mul-narrow : tie.Need-mul-narrow Inv-loop μ-loop
+mul-narrow c = omega arith
 
-shared-slice-read-t14 : tie.Need-shared-slice-read-t14 Inv-loop μ-loop
-shared-slice-read-t14 c = omega arith
+shared-slice-read-narrow : tie.Need-shared-slice-read-narrow Inv-loop μ-loop
+shared-slice-read-narrow c = omega arith
+
+narrow-requires : tie.Need-narrow-requires Inv-loop μ-loop
+narrow-requires c κs = search needs
 
 mul-put-if-any : tie.Need-mul-put-if-any Inv-loop μ-loop
 mul-put-if-any c = omega arith
@@ -55,10 +61,10 @@ loop-less : tie.Need-loop-less Inv-loop μ-loop
 loop-less c = omega arith
 
 loop-again : tie.Need-loop-again Inv-loop μ-loop
-unfolding lineAt
 loop-again c =
     let w = c .before .before in
-    let l = w .before .before .before .before .before .before in
+    let rate = w .before .before .before .narrow .ensures in
+    let l = w .before .before .before .before .before .before .before in
     let a = l .before .before .before .before .before .args in (
       omega arith,
       l .loop .inv .1,
@@ -66,7 +72,8 @@ loop-again c =
       l .loop .inv .3,
       omega arith,
       omega arith,
-      said (lines-more (now (a .codes)) (now (a .rates)) (now (a .awards)) (l .loop .i)) (then (omega arith) (l .loop .inv .6) (w .put-if-any .ensures .0)),
+      said (lines-more (now (a .codes)) (map low32 (now (a .rates))) (now (a .awards)) (l .loop .i))
+          (then (omega arith) (l .loop .inv .6) (said (line-narrowed (now (a .codes)) (now (a .rates)) (now (a .awards)) (l .loop .i) _ rate) (w .put-if-any .ensures .0))),
     )
 
 same-length : tie.Need-same-length Inv-loop μ-loop
@@ -78,7 +85,7 @@ returns c =
     let s = c .before .before .before .before .before .before in
     let a = s .args in
     λ b amounts same alike.
-    said (lines-viewed (now (a .codes)) (now (a .rates)) (now (a .awards)) b amounts (l .i) (s .pre .0) (s .pre .1 .0) (omega arith) same alike) (l .inv .6)
+    said (lines-viewed (now (a .codes)) (map low32 (now (a .rates))) (now (a .awards)) b amounts (l .i) (length-map (now (a .rates)) low32 ∙ s .pre .0) (s .pre .1 .0) (omega arith) same alike) (l .inv .6)
 
 pub put-awards-spec : {M : Type 1} → statement M
 put-awards-spec =
@@ -89,8 +96,9 @@ put-awards-spec =
     loop-holds
     mul-code
     shared-slice-read-code
-    mul-t10
-    shared-slice-read-t14
+    mul-narrow
+    shared-slice-read-narrow
+    narrow-requires
     mul-put-if-any
     shared-slice-read-put-if-any
     add-put-if-any

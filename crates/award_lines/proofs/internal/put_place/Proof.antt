@@ -1,7 +1,8 @@
 -- `award_lines::internal::put_place` meets its contract: four writes, chained. Assumes nothing.
 use borrow.Author.Needs.{needs}
 use native.Mathlib.Omega.{arith}
-use Rattle.output.proofs.Output.{then}
+use Rattle.output.proofs.Output.{then, said}
+use Rattle.digits.proofs.Writing.{digits-rest}
 use Rattle.award_lines.proofs.internal.put_place.Statement.{statement}
 use Rattle.award_lines.proofs.internal.put_place.Tie as tie
 
@@ -29,7 +30,8 @@ returns c =
     let blank = place .before .before .before .before in
     let code = blank .before .before .before .before in
     let letter = code .before .before .before .before in
-    (then (omega arith) (then (omega arith) (then (omega arith) (letter .put .ensures) (code .put-digits .ensures .0)) (blank .put-byte .ensures)) (place .put-digits2 .ensures .0), search needs)
+    let five = digits-rest 5 (c .before .before .before .before .before .before .before .before .before .before .before .before .before .before .before .before .before .before .args .code) in
+    (then (omega arith) (then (omega arith) (then (omega arith) (letter .put .ensures) (said five (code .put-digits .ensures .0))) (blank .put-byte .ensures)) (place .put-digits2 .ensures .0), search needs)
 
 pub put-place-spec : {M : Type 1} → statement M
 put-place-spec =

@@ -27,21 +27,21 @@ use Rattle.in_place.proofs.internal.allot_in.Tie as tie
 long : (c : tie.Start) → 1496 ≤ length (now (c .args .words))
 long c = known (now (c .args .words)) (c .pre .0) .long
 
-rates-in-requires : tie.Need-rates-in-requires
-rates-in-requires c κs = long (c .before .before .before)
-
 slice-read-up-to-64 : tie.Need-slice-read-up-to-64
-slice-read-up-to-64 c = let h = long (c .before .before .before .before .before) in omega (arith, h)
+slice-read-up-to-64 c = let h = long (c .before .before .before) in omega (arith, h)
 
 up-to-64-requires : tie.Need-up-to-64-requires
 up-to-64-requires c κs = search needs
 
 -- ten places for each of at most 64 codes
 few : (c : tie.After-up-to-64) → 10 * c .up-to-64 .result ≤ 640
-few c = omega (arith, c .up-to-64 .ensures, upTo64-small (getD (now (c .before .before .before .before .before .before .args .words)) 2 0) .0)
+few c = omega (arith, c .up-to-64 .ensures, upTo64-small (getD (now (c .before .before .before .before .args .words)) 2 0) .0)
 
 mul-end : tie.Need-mul-end
 mul-end c = let e = few c in omega (arith, e)
+
+rates-in-requires : tie.Need-rates-in-requires
+rates-in-requires c κs = (long (c .before .before .before .before .before), few (c .before))
 
 terms-in-requires : tie.Need-terms-in-requires
 terms-in-requires c κs = long (c .before .before .before .before .before .before .before)
@@ -64,13 +64,13 @@ rates-long c = search needs
 
 part-allot-bids-end : tie.Need-part-allot-bids-end
 part-allot-bids-end c =
-    let u = c .before .before .before .before .before in
-    let e = few u in
-    let r = rates-long (u .before .before) in
+    let k = c .before .before .before .before .before in
+    let e = few (k .before .before) in
+    let r = rates-long k in
     omega (arith, e, r)
 
 add-allot-bids : tie.Need-add-allot-bids
-add-allot-bids c = let e = few (c .before .before .before .before .before .before) in omega (arith, e)
+add-allot-bids c = let e = few (c .before .before .before .before .before .before .before .before) in omega (arith, e)
 
 sub-allot-bids-2 : tie.Need-sub-allot-bids-2
 sub-allot-bids-2 c = search needs
@@ -80,9 +80,9 @@ part-allot-bids-start-2 c = search needs
 
 part-allot-bids-end-2 : tie.Need-part-allot-bids-end-2
 part-allot-bids-end-2 c =
-    let u = c .before .before .before .before .before .before .before in
+    let u = c .before .before .before .before .before .before .before .before .before in
     let e = few u in
-    let h = long (u .before .before .before .before .before .before) in
+    let h = long (u .before .before .before .before) in
     omega (arith, e, h)
 
 sub-allot-bids-3 : tie.Need-sub-allot-bids-3
@@ -93,9 +93,9 @@ part-allot-bids-start-3 c = search needs
 
 part-allot-bids-end-3 : tie.Need-part-allot-bids-end-3
 part-allot-bids-end-3 c =
-    let u = c .before .before .before .before .before .before .before .before in
+    let u = c .before .before .before .before .before .before .before .before .before .before in
     let e = few u in
-    let z = ap length (u .before .before .before .before .before .before .pre .1) ∙ length-replicate {A = ℕ} 640 0 in
+    let z = ap length (u .before .before .before .before .pre .1) ∙ length-replicate {A = ℕ} 640 0 in
     omega (arith, e, z)
 
 -- the awards are zeros
@@ -104,9 +104,9 @@ zeros c = ap length (c .pre .1) ∙ length-replicate {A = ℕ} 640 0
 
 allot-bids-requires : tie.Need-allot-bids-requires
 allot-bids-requires c κs =
-    let u = c .before .before .before .before .before .before .before .before .before in
-    let k = u .before .before in
-    let start = k .before .before .before .before in
+    let k = c .before .before .before .before .before .before .before .before .before in
+    let u = k .before .before in
+    let start = u .before .before .before .before in
     let n = 10 * u .up-to-64 .result in
     let ws = now (start .args .words) in
     let e = few u in
@@ -130,10 +130,10 @@ same-length-2 c = search needs
 -- what allotting the bids of the words gives, and the words after it
 module _ (c : tie.After-allot-bids) where
   abbrev u : tie.After-up-to-64
-  u = c .before .before .before .before .before .before .before .before .before .before
+  u = c .before .before .before .before .before .before .before .before .before .before .before .before
 
   abbrev start : tie.Start
-  start = u .before .before .before .before .before .before
+  start = u .before .before .before .before
 
   abbrev ws : List ℕ
   ws = now (start .args .words)
@@ -144,11 +144,12 @@ module _ (c : tie.After-allot-bids) where
   bids : AllotsBids (tenderIn ws) (take (10 * u .up-to-64 .result - 0) (replicate 640 0)) (c .allot-bids .result) awarded
   bids =
       let s = c .before .before .before .before .before .before in
+      let k = s .before .before .before .before in
       let n = u .up-to-64 .result in
       subst (λ (l : List ℕ). AllotsBids (tenderIn ws) (take (10 * n - 0) l) (c .allot-bids .result) awarded) (start .pre .1)
       (subst (λ (x : State). AllotsBids (viewedOf x (termsIn ws) (bookIn ws)) (take (10 * n - 0) (now (start .args .awards))) (c .allot-bids .result) awarded) (s .state-of .ensures)
       (subst (λ (t : Terms). AllotsBids (viewedOf (s .state-of .result) t (bookIn ws)) (take (10 * n - 0) (now (start .args .awards))) (c .allot-bids .result) awarded) (s .before .before .terms-in .ensures)
-      (c .allot-bids .ensures (bookIn ws) (bids-lent ws n (u .before .before .rates-in .result) (long start) (u .up-to-64 .ensures) (few u) (u .before .before .rates-in .ensures)))))
+      (c .allot-bids .ensures (bookIn ws) (bids-lent ws n (k .rates-in .result) (long start) (u .up-to-64 .ensures) (few u) (k .rates-in .ensures)))))
 
   allots : (after : List ℕ) → ChangesIn ws (changed ws 2 (refusalNumber (c .allot-bids .result .refusal))) 2 (c .allot-bids .result .refusal) after
       → AllotsIn ws (c .allot-bids .result) after (awarded ++ drop (10 * u .up-to-64 .result - 0) (now (start .args .awards)))
@@ -184,10 +185,10 @@ pub allot-in-spec : {M : Type 1} → statement M
 allot-in-spec =
     tie.close
     (tie.spec
-    rates-in-requires
     slice-read-up-to-64
     up-to-64-requires
     mul-end
+    rates-in-requires
     terms-in-requires
     slice-read-state-of
     state-of-requires

@@ -1,20 +1,22 @@
 -- `in_place::internal::rates_in` meets its contract. The loop's invariant: the first i rates are written. Assumes nothing.
-use mathlib.Core.Path.{refl, sym, ap, subst, _∙_}
+use mathlib.Core.Path.{_≡_, refl, sym, ap, subst, _∙_}
+use mathlib.Core.List.{_++_, map}
 use Prim.Native.Nat.{ℕ, _+_, _-_, _≤_}
 use native.Mathlib.Omega.{arith}
 use denote.Ref.{now}
-use lib.ListN.{length, set, replicate, length-replicate}
-use Rattle.book.proofs.Mapped.{MappedTo, mapped-more, mapped-all}
+use lib.ListN.{length, take, drop, set, replicate, length-map, length-replicate}
+use lib.Seq.{take-at, length-take-le}
+use Rattle.book.proofs.Mapped.{MappedTo, mapped-more}
 use Rattle.buffer.specs.Words.{part, low32}
 use Rattle.buffer.proofs.Parts.{part-length, word-at}
 use Rattle.in_place.proofs.internal.rates_in.Statement.{statement}
 use Rattle.in_place.proofs.internal.rates_in.Tie as tie
 
 abbrev Inv-loop : tie.InvT-loop
-Inv-loop words rates₀ i₀ rates i = (i ≤ 640) × (1496 ≤ length words) × MappedTo low32 (part 216 640 words) rates₀ rates i
+Inv-loop words end rates₀ i₀ rates i = (i ≤ end) × ((1496 ≤ length words) × (end ≤ 640)) × MappedTo low32 (part 216 640 words) rates₀ rates i
 
 abbrev μ-loop : tie.MeasureT-loop
-μ-loop words rates₀ i₀ rates i = 640 - i
+μ-loop words end rates₀ i₀ rates i = end - i
 
 loop-holds : tie.Need-loop-holds Inv-loop μ-loop
 loop-holds c = (omega arith, c .before .pre, (omega arith, refl))
@@ -47,7 +49,8 @@ loop-again : tie.Need-loop-again Inv-loop μ-loop
 loop-again c =
     let l = c .before .before .before .loop in
     let ws = now (c .before .before .before .before .before .args .words) in
-    let n = part-length ws 216 640 (omega arith) in
+    let h = l .inv .1 in
+    let n = part-length ws 216 640 (omega (arith, h .0)) in
     let value = c .narrow .ensures ∙ ap low32 (sym (word-at ws 216 640 (l .i) (omega arith))) in (
       omega arith,
       l .inv .1,
@@ -58,9 +61,12 @@ loop-again c =
 returns : tie.Need-returns Inv-loop μ-loop
 returns c =
     let l = c .before .loop in
-    let ws = now (c .before .before .before .args .words) in
-    let n = part-length ws 216 640 (omega (arith, l .inv .1)) in
-    mapped-all low32 (part 216 640 ws) _ _ _ 0 0 (omega (arith, n, length-replicate {A = ℕ} 640 0)) (omega (arith, n)) (l .inv .2)
+    let a = c .before .before .before .args in
+    let all = map low32 (part 216 640 (now (a .words))) in
+    let h = l .inv .1 in
+    let n = length-map (part 216 640 (now (a .words))) low32 ∙ part-length (now (a .words)) 216 640 (omega (arith, h .0)) in
+    let k : l .i ≡ a .end = omega arith in
+    ap (take (a .end)) (l .inv .2 .1 ∙ ap (λ (i : ℕ). take i all ++ drop i (replicate 640 0)) k) ∙ take-at (take (a .end) all) _ (a .end) (length-take-le (a .end) all (omega (arith, n, h .1)))
 
 pub rates-in-spec : {M : Type 1} → statement M
 rates-in-spec =

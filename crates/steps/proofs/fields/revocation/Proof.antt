@@ -1,80 +1,62 @@
 -- `steps::fields::revocation` meets its contract. Assumes nothing.
-use mathlib.Core.Path.{_≡_, ap, _∙_}
-use mathlib.Core.Bool.{true}
-use mathlib.Core.List.{List}
-use mathlib.Core.Option.{Option}
-use Prim.Native.Nat.{ℕ}
 use denote.Ref.{now}
 use borrow.Author.Tests.{not-true, not-false}
-use Rattle.envelope.specs.Refusals.{unlessRefused}
-use Rattle.rules.specs.Calls as rules
-use Rattle.rules.specs.Calls.{revokingRefused}
-use Rattle.log.specs.Steps.{onTender, refusal, revoked, revocationStep}
-use Rattle.refusals.specs.declared.State.the-variants as state
-use Rattle.refusals.specs.Conditions.{refusalNumber}
-use Rattle.steps.specs.Parts.{Parts, parts, tenderIn, viewed, withTender}
-use Rattle.steps.proofs.Taking.{other-length, its-length, takes-as, takes-ended, takes-skipped, no-tender, on-tender, takes-state}
+use Rattle.steps.specs.Viewed.{viewed}
+use Rattle.rules.specs.Calls.{revoke}
+use Rattle.log.specs.Steps.{revoked, revocationStep}
+use Rattle.steps.proofs.Taking.{other-length, its-length, takes-as, takes-ended, takes-skipped, takes-called, called-by}
 use borrow.Author.Needs.{needs}
 use Rattle.steps.proofs.fields.revocation.Statement.{statement}
 use Rattle.steps.proofs.fields.revocation.Tie as tie
 
-with-change-requires : tie.Need-with-change-requires
-with-change-requires c κs = search needs
+ended-requires : tie.Need-ended-requires
+ended-requires c κs = search needs
 
 returns : tie.Need-returns
 unfolding revocationStep
-returns c codes n terms book g =
-    let a = c .before .before .before .before .args in
-    let p = parts (a .opened) codes n (a .state) terms book in
-    takes-as (other-length 0 revoked (viewed p) (now (a .s)) (c .before .if1 .taken)) (takes-ended p g (now (a .s)) (now (a .space)) (c .with-change .result) (c .with-change .ensures .1) (c .with-change .ensures .0))
-
-with-change-requires-2 : tie.Need-with-change-requires-2
-with-change-requires-2 c κs = search needs
+returns c codes =
+    let start = c .before .before .before .before .before in
+    let a = start .args in
+    takes-as (other-length 0 revoked (viewed (a .standing) codes (now (a .words))) (now (a .s)) (c .before .if1 .taken)) (takes-ended (a .standing) codes (now (a .words)) (now (a .space)) _ (c .ended .ensures) (start .pre .0 .given))
 
 returns-2 : tie.Need-returns-2
 unfolding revocationStep
-returns-2 c codes n terms book g =
-    let a = c .before .before .before .before .before .args in
-    let s = now (a .s) in
-    let p = parts (a .opened) codes n (a .state) terms book in
-    takes-as (no-tender p revoked (not-true _ (c .before .if2 .taken)) ∙ its-length 0 revoked (viewed p) s (c .before .before .if1 .left)) (takes-skipped p g s (now (a .space)) (c .with-change2 .result) (c .with-change2 .ensures .1) (c .with-change2 .ensures .0))
+returns-2 c codes =
+    let start = c .before .before .before .before .before .before in
+    let a = start .args in
+    takes-as (its-length 0 revoked (viewed (a .standing) codes (now (a .words))) (now (a .s)) (c .before .before .if1 .left)) (takes-skipped (a .standing) codes (now (a .words)) (now (a .space)) revoked (start .pre .0 .given) (not-true _ (c .if2 .taken)))
 
-revoke-refusal-requires : tie.Need-revoke-refusal-requires
-revoke-refusal-requires c κs = search needs
+revoke-in-requires : tie.Need-revoke-in-requires
+revoke-in-requires c κs = c .before .before .before .before .before .before .before .pre .0 .given .tender (not-false _ (c .before .if2 .left))
 
-put-into-requires : tie.Need-put-into-requires
-put-into-requires c κs = search needs
+put-refusal-requires : tie.Need-put-refusal-requires
+put-refusal-requires c κs = search needs
 
 same-length : tie.Need-same-length
 same-length c = search needs
 
--- the call by its refusal
-called : (s : List ℕ) (p : Parts) (l : Option ℕ) → l ≡ revokingRefused (tenderIn p) → p .opened ≡ true
-    → (withTender p (unlessRefused l (tenderIn p) (rules.inState rules.Revoked (tenderIn p))), refusal l) ≡ onTender (viewed p) revoked
-unfolding rules.revoke
-called s p l e o = ap (λ (x : Option ℕ). (withTender p (unlessRefused x (tenderIn p) (rules.inState rules.Revoked (tenderIn p))), refusal x)) e ∙ on-tender p revoked o
+same-length-2 : tie.Need-same-length-2
+same-length-2 c = search needs
 
 returns-3 : tie.Need-returns-3
 unfolding revocationStep
-returns-3 c codes n terms book g =
-    let w = c .before .before .put-into in
-    let a = c .before .before .before .before .before .before .before .before .before .args in
-    let s = now (a .s) in
-    let p = parts (a .opened) codes n (a .state) terms book in
-    let l = refusalNumber (c .before .before .before .before .revoke-refusal .result) in
-    let o = not-false _ (c .before .before .before .before .before .if2 .left) in
-    let number : l ≡ revokingRefused (tenderIn p) = c .before .before .before .before .revoke-refusal .ensures (tenderIn p .terms) (tenderIn p .book) in
-    takes-as (called s p l number o ∙ its-length 0 revoked (viewed p) s (c .before .before .before .before .before .before .if1 .left)) (takes-state p g s (now (a .space)) (w .result) state.Revoked l (refusal l) (w .last .1 .1 .0) o (w .ensures .1) (w .ensures .0))
+returns-3 c codes =
+    let start = c .before .before .before .before .before .before .before .before .before .before .before .before .before .before in
+    let a = start .args in
+    let ws = now (a .words) in
+    let done = c .before .before .before .before .before .before .revoke-in in
+    takes-as (its-length 0 revoked (viewed (a .standing) codes ws) (now (a .s)) (c .before .before .before .before .before .before .before .before .before .before .if1 .left))
+    (takes-called (a .standing) codes ws (now (a .space)) revoked _ _ _ (start .pre .0) (not-false _ (c .before .before .before .before .before .before .before .before .if2 .left)) (called-by revoke ws _ (now (a .space)) _ _ (done .result) 3 (done .ensures) (c .before .before .put-refusal .ensures)))
 
 pub revocation-spec : {M : Type 1} → statement M
 revocation-spec =
     tie.close
     (tie.spec
-    with-change-requires
+    ended-requires
     returns
-    with-change-requires-2
     returns-2
-    revoke-refusal-requires
-    put-into-requires
+    revoke-in-requires
+    put-refusal-requires
     same-length
+    same-length-2
     returns-3)

@@ -1,37 +1,40 @@
 -- `tender::Tender::allot` meets its contract. Assumes nothing.
 use mathlib.Core.Path.{_≡_, ap, ap₂, _∙_}
+use mathlib.Core.List.{List, map}
 use Prim.Native.Nat.{ℕ, _*_, _-_, _≤_}
 use native.Mathlib.Nat.{sub-zero}
 use native.Mathlib.Omega.{arith}
 use lib.ListN.{length, take, replicate, length-replicate}
 use Rattle.laws.proofs.Arrays.{length-mapped}
-use Rattle.bids.specs.Columns.{bidsOf}
+use Rattle.bids.specs.Columns.{bidsOf, cents}
 use Rattle.rules.specs.Calls.{bidsInBook}
-use Rattle.book.specs.declared.Columns.{Columns}
 use Rattle.book.specs.Viewed as book
 use Rattle.book.proofs.Empty.{upTo64-small}
-use Rattle.book.proofs.Order.{bids-in-columns}
+use Rattle.book.proofs.Order.{bids-numbered}
 use Rattle.outcomes.proofs.Awarding.{lent-length}
 use Rattle.tender.proofs.Allotting.{allots}
 use borrow.Author.Needs.{needs}
 use Rattle.tender.proofs.Tender.allot.Statement.{statement}
 use Rattle.tender.proofs.Tender.allot.Tie as tie
 
-columns-of-requires : tie.Need-columns-of-requires
-columns-of-requires c κs = search needs
+numbers-of-requires : tie.Need-numbers-of-requires
+numbers-of-requires c κs = search needs
+
+cents-of-requires : tie.Need-cents-of-requires
+cents-of-requires c κs = search needs
 
 up-to-64-requires : tie.Need-up-to-64-requires
 up-to-64-requires c κs = search needs
 
 -- ten places for each of at most 64 codes
 few : (c : tie.After-up-to-64) → 10 * c .up-to-64 .result ≤ 640
-few c = omega (arith, c .up-to-64 .ensures, upTo64-small (c .before .before .before .before .before .before .args .self .book .n) .0)
+few c = omega (arith, c .up-to-64 .ensures, upTo64-small (c .before .before .before .before .before .before .before .args .self .book .n) .0)
 
--- the columns have 640 places
-rates-long : (c : tie.After-columns-of) → length (c .columns-of .result .rates) ≡ 640
+-- the numbers have 640 places
+rates-long : (c : tie.After-numbers-of) → length (c .numbers-of .result) ≡ 640
 rates-long c = search needs
 
-amounts-long : (c : tie.After-columns-of) → length (c .columns-of .result .amounts) ≡ 640
+amounts-long : (c : tie.After-cents-of) → length (c .cents-of .result) ≡ 640
 amounts-long c = search needs
 
 mul-end : tie.Need-mul-end
@@ -47,7 +50,7 @@ part-allot-bids-end : tie.Need-part-allot-bids-end
 part-allot-bids-end c =
     let u = c .before in
     let e = few u in
-    let r = rates-long (u .before .before .before) in
+    let r = rates-long (u .before .before) in
     omega (arith, e, r)
 
 sub-allot-bids-2 : tie.Need-sub-allot-bids-2
@@ -60,7 +63,7 @@ part-allot-bids-end-2 : tie.Need-part-allot-bids-end-2
 part-allot-bids-end-2 c =
     let u = c .before .before .before in
     let e = few u in
-    let r = amounts-long (u .before .before .before) in
+    let r = amounts-long (u .before) in
     omega (arith, e, r)
 
 sub-allot-bids-3 : tie.Need-sub-allot-bids-3
@@ -77,11 +80,11 @@ part-cents-end c =
 allot-bids-requires : tie.Need-allot-bids-requires
 allot-bids-requires c κs =
     let u = c .before .before .before .before .before in
-    let k = u .before .before .before in
+    let k = u .before in
     let n = 10 * u .up-to-64 .result in
     let e = few u in
-    let rates = lent-length (k .columns-of .result .rates) n (let r = rates-long k in omega (arith, e, r)) in
-    let amounts = lent-length (k .columns-of .result .amounts) n (let r = amounts-long k in omega (arith, e, r)) in
+    let rates = lent-length (k .before .numbers-of .result) n (let r = rates-long (k .before) in omega (arith, e, r)) in
+    let amounts = lent-length (k .cents-of .result) n (let r = amounts-long k in omega (arith, e, r)) in
     let cents = lent-length (replicate 640 0) n (omega (arith, e, length-replicate {A = ℕ} 640 0)) in
     (omega (arith, rates, amounts), omega (arith, amounts, cents), omega (arith, amounts, e))
 
@@ -97,13 +100,14 @@ book-amounts c = search (needs, length-mapped)
 -- the bids that are lent are those of the book
 bids-are : (c : tie.After-up-to-64)
     → (let n = 10 * c .up-to-64 .result in
-    let k = c .before .before .before .columns-of .result in
-    bidsOf (take (n - 0) (k .rates)) (take (n - 0) (k .amounts)) ≡ bidsInBook (book.viewed (c .before .before .before .before .before .before .args .self .book)))
+    bidsOf (take (n - 0) (c .before .before .numbers-of .result)) (take (n - 0) (c .before .cents-of .result)) ≡ bidsInBook (book.viewed (c .before .before .before .before .before .before .before .args .self .book)))
 bids-are c =
-    let start = c .before .before .before .before .before .before in
+    let n = 10 * c .up-to-64 .result in
+    let start = c .before .before .before .before .before .before .before in
     let b = start .args .self .book in
-    ap₂ (λ (n : ℕ) (k : Columns). bidsOf (take n (k .rates)) (take n (k .amounts))) (sub-zero _ ∙ ap (λ (n : ℕ). 10 * n) (c .up-to-64 .ensures)) (c .before .before .before .columns-of .ensures)
-    ∙ bids-in-columns b (book-rates start) (book-amounts start)
+    ap₂ (λ (r x : List ℕ). bidsOf (take (n - 0) r) (take (n - 0) x)) (c .before .before .numbers-of .ensures) (c .before .cents-of .ensures)
+    ∙ ap (λ (k : ℕ). bidsOf (take k (map book.hundredThousandths (b .rates))) (take k (map cents (b .amounts)))) (sub-zero n ∙ ap (λ (k : ℕ). 10 * k) (c .up-to-64 .ensures))
+    ∙ bids-numbered b (book-rates start) (book-amounts start)
 
 amounts-of-requires : tie.Need-amounts-of-requires
 amounts-of-requires c κs = search needs
@@ -111,7 +115,7 @@ amounts-of-requires c κs = search needs
 returns : tie.Need-returns
 returns c =
     let u = c .before .before .before .before .before .before .before .before .before .before in
-    let start = u .before .before .before .before .before .before in
+    let start = u .before .before .before .before .before .before .before in
     let a = c .before .before .before .before .allot-bids in
     let n = 10 * u .up-to-64 .result in
     let e = few u in
@@ -124,7 +128,8 @@ pub allot-spec : {M : Type 1} → statement M
 allot-spec =
     tie.close
     (tie.spec
-    columns-of-requires
+    numbers-of-requires
+    cents-of-requires
     up-to-64-requires
     mul-end
     sub-allot-bids

@@ -1,51 +1,22 @@
 -- `tender::Tender::receive` meets its contract: what the reception comes to, with its reply. Assumes nothing.
-use borrow.Author.Needs.{needs}
 use mathlib.Core.Path.{_≡_, refl, sym, ap, _∙_}
-use mathlib.Core.Bool.{not}
 use mathlib.Core.List.{List}
 use mathlib.Core.Option.{none}
 use denote.Ref.{now}
-use lib.ListN.{length}
-use Rattle.laws.proofs.Arrays.{length-mapped}
-use Rattle.book.specs.Viewed.{Full}
-use Rattle.book.proofs.Order.{codes-viewed}
-use Rattle.rules.specs.Opening.{rising}
 use Rattle.rules.specs.Receiving.{Entry}
-use Rattle.rules.specs.Calls.{receive}
 use Rattle.errors.specs.Listed.{listed}
 use Rattle.checks.specs.Columns.{receptionOf}
 use Rattle.refusals.specs.declared.Refusal.{Refusal}
 use Rattle.refusals.specs.Conditions.{refusalNumber, isSome}
 use Rattle.refusals.proofs.Conditions.{none-of}
-use Rattle.outcomes.specs.Outcomes.{ComesTo}
-use Rattle.tender.specs.Viewed.{viewed}
 use Rattle.outcomes.proofs.Answering.{not-held}
 use Rattle.tender.proofs.Answering.{receives-refused, receives-answered}
+use borrow.Author.Needs.{needs}
 use Rattle.tender.proofs.Tender.receive.Statement.{statement}
 use Rattle.tender.proofs.Tender.receive.Tie as tie
 
--- the lengths that arrays have by their types
-full : (c : tie.Start) → (let b = c .args .self .book in Full (b .codes) (b .held) (b .has))
-full c = record { codes-length = search needs; held-length = search needs; has-length = search (needs, length-mapped) }
-
-slice-aggregate-outcome-of : tie.Need-slice-aggregate-outcome-of
-slice-aggregate-outcome-of c = search needs
-
-slice-aggregate-outcome-of-2 : tie.Need-slice-aggregate-outcome-of-2
-slice-aggregate-outcome-of-2 c = search needs
-
-slice-aggregate-outcome-of-3 : tie.Need-slice-aggregate-outcome-of-3
-slice-aggregate-outcome-of-3 c = search (needs, length-mapped)
-
 outcome-of-requires : tie.Need-outcome-of-requires
-outcome-of-requires c κs =
-    let start = c .before .before .before .before .before .before .before .before .before .before in
-    let f = full start in
-    (f, ap rising (sym (codes-viewed (start .args .self .book) (f .codes-length))) ∙ start .pre .rises)
-
--- what the reception comes to in this tender, whose book lends its columns
-comes : (c : tie.After-outcome-of) → (let a = c .before .before .before .before .before .before .before .before .before .before .before .args in ComesTo (viewed (a .self)) (now (a .m)) (a .date) (a .time) (length (now (a .space))) (c .outcome-of .result))
-comes c = c .outcome-of .ensures (c .before .before .before .before .before .before .before .before .before .before .before .args .self .book) (record { n-is = refl; codes-are = refl; held-are = refl; has-are = refl })
+outcome-of-requires c κs = search needs
 
 is-refused-requires : tie.Need-is-refused-requires
 is-refused-requires c κs = search needs
@@ -56,11 +27,11 @@ unreceived-requires c κs = search needs
 returns : tie.Need-returns
 returns c =
     let o = c .before .before .before in
-    let start = o .before .before .before .before .before .before .before .before .before .before .before in
+    let start = o .before .before .before in
     let a = start .args in
     let e = c .unreceived .ensures in
     receives-refused (a .self) (start .pre) (receptionOf (now (a .m)) (a .date) (a .time) (now (a .space))) (c .unreceived .result) (e .1) (e .2) (e .3) (e .4)
-    (sym (comes o .number (now (a .space)) refl) ∙ ap refusalNumber (sym (e .0)))
+    (sym (o .outcome-of .ensures .number (now (a .space)) refl) ∙ ap refusalNumber (sym (e .0)))
     (ap (λ (r : Refusal). isSome (refusalNumber r)) (e .0) ∙ sym (c .before .before .is-refused .ensures) ∙ c .before .if1 .taken)
 
 -- the reception is not refused
@@ -69,12 +40,12 @@ unrefused c = none-of _ (sym (c .before .is-refused .ensures) ∙ c .if1 .left)
 
 put-reply-requires : tie.Need-put-reply-requires
 put-reply-requires c κs =
-    let l = c .before .before in
-    let e = comes (l .before .before) in
+    let l = c .before .before .before .before in
+    let e = l .before .before .outcome-of .ensures in
     (e .readable-told (unrefused l), (e .few, e .roomy (unrefused l)))
 
 held-in-requires : tie.Need-held-in-requires
-held-in-requires c κs = comes (c .before .before .before .before .before .before .before) .within
+held-in-requires c κs = c .before .before .before .before .before .before .before .before .before .outcome-of .ensures .within
 
 same-length : tie.Need-same-length
 same-length c = search needs
@@ -82,12 +53,12 @@ same-length c = search needs
 returns-2 : tie.Need-returns-2
 returns-2 c =
     let p = c .before .before .before in
-    let l = p .before .before .before in
+    let l = p .before .before .before .before .before in
     let o = l .before .before in
-    let start = o .before .before .before .before .before .before .before .before .before .before .before in
+    let start = o .before .before .before in
     let a = start .args in
     let x = receptionOf (now (a .m)) (a .date) (a .time) (now (a .space)) in
-    let e = comes o in
+    let e = o .outcome-of .ensures in
     let q = unrefused l in
     let r = o .outcome-of .result in
     receives-answered (a .self) (start .pre) x (r .errors) (p .put-reply .result) (c .held-in .result) (p .put-reply .last .0)
@@ -101,9 +72,6 @@ pub receive-spec : {M : Type 1} → statement M
 receive-spec =
     tie.close
     (tie.spec
-    slice-aggregate-outcome-of
-    slice-aggregate-outcome-of-2
-    slice-aggregate-outcome-of-3
     outcome-of-requires
     is-refused-requires
     unreceived-requires

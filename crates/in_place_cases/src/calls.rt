@@ -1,0 +1,147 @@
+// The calls in place, each on words of its own. Words that hold no tender are answered with the number
+// 99, which no call gives.
+use buffer_opening::internal::open_in;
+use buffer_questions::is_tender;
+use errors::none;
+use in_place::internal::Told;
+use in_place::internal::allot_in;
+use in_place::internal::close_in;
+use in_place::internal::receive_in;
+use in_place::internal::revoke_in;
+use marginal::MarginalRate;
+use refusals::Refusal;
+use refusals::number_of;
+use terms::number_of_answer;
+ghost use Prim.Native.Nat.{_≤_};
+
+// The number of a refusal, and the words after the call.
+pub struct After {
+    pub number: u64,
+    pub words: [u64; 1496],
+}
+
+// Opens a tender.
+pub fn open(before: [u64; 1496], a: [u8; 225], codes: &[u32]) -> After {
+    let mut words = before;
+    let answer = open_in(&mut words, &a, codes);
+    After {
+        number: number_of_answer(answer),
+        words,
+    }
+}
+
+// Closes a tender.
+pub fn close(before: [u64; 1496], date: u64, time: u64) -> After {
+    let mut words = before;
+    if !is_tender(&words) {
+        return After { number: 99, words };
+    }
+    let refusal = close_in(&mut words, date, time);
+    After {
+        number: number_of(refusal),
+        words,
+    }
+}
+
+// Revokes a tender.
+pub fn revoke(before: [u64; 1496]) -> After {
+    let mut words = before;
+    if !is_tender(&words) {
+        return After { number: 99, words };
+    }
+    let refusal = revoke_in(&mut words);
+    After {
+        number: number_of(refusal),
+        words,
+    }
+}
+
+// What allotting gives too.
+pub struct Awarded {
+    pub number: u64,
+    pub words: [u64; 1496],
+    pub awards: [u64; 640],
+    pub marginal: MarginalRate,
+}
+
+// Allots a tender.
+pub fn allot(before: [u64; 1496]) -> Awarded {
+    let mut words = before;
+    let mut awards = [0u64; 640];
+    if !is_tender(&words) {
+        return Awarded {
+            number: 99,
+            words,
+            awards,
+            marginal: MarginalRate::None,
+        };
+    }
+    let answer = allot_in(&mut words, &mut awards);
+    let refusal = answer.refusal;
+    let marginal = answer.marginal;
+    Awarded {
+        number: number_of(refusal),
+        words,
+        awards,
+        marginal,
+    }
+}
+
+// How much of a message is received and when, and how much room there is for the reply.
+pub struct Reception {
+    pub length: usize,
+    pub date: u64,
+    pub time: u64,
+    pub room: usize,
+}
+
+// A whole message on document 01's day, with room of 420 bytes.
+pub fn at(time: u64) -> Reception {
+    Reception {
+        length: 339,
+        date: 12032012,
+        time,
+        room: 420,
+    }
+}
+
+// A number, or 339 where it is larger.
+pub fn up_to_339(n: usize) -> usize
+    ensures { λ r. ⌜ r ≤ 339 ⌝ }
+{
+    if n < 339 { n } else { 339 }
+}
+
+// A number, or 420 where it is larger.
+pub fn up_to_420(n: usize) -> usize
+    ensures { λ r. ⌜ r ≤ 420 ⌝ }
+{
+    if n < 420 { n } else { 420 }
+}
+
+// What a reception tells, with its reply space and the words after it.
+pub struct Replied {
+    pub told: Told,
+    pub space: [u8; 420],
+    pub words: [u64; 1496],
+}
+
+// Receives a message. For words that hold no tender the reply has the length 99, which none has.
+pub fn receive(before: [u64; 1496], m: &[u8], at: Reception) -> Replied {
+    let mut words = before;
+    let room = up_to_420(at.room);
+    let mut space = [238u8; 420];
+    if !is_tender(&words) {
+        return Replied {
+            told: Told {
+                refusal: Refusal::None,
+                errors: none(),
+                length: 99,
+            },
+            space,
+            words,
+        };
+    }
+    let told = receive_in(&mut words, m, at.date, at.time, &mut space[0..room]);
+    Replied { told, space, words }
+}

@@ -1,0 +1,16 @@
+// The calls by value and the calls in place, compared step by step on the same inputs: the answers,
+// every byte of the reply space, the awards, and the tender with every word that holds it.
+mod calls;
+mod comparing;
+mod messages;
+mod sessions;
+mod steps;
+
+fn main() {
+    // Document 01's session, with calls refused before and after closing.
+    sessions::run(b"abcdbnortsulADBCaCAAaCV");
+    // A tender for LA with errors and a cancellation, one without bids, and openings refused.
+    sessions::run(b"LfghijckCALkCAXEN");
+    // Tenders revoked open and closed.
+    sessions::run(b"aVasnCAVOaCVanCAV");
+}
