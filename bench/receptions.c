@@ -1,5 +1,5 @@
 // Measures receptions by one tender, each by the tender that the reception before it gave, so that the
-// book is kept from one to the next. The announcement is that of document 01's worked session, and the
+// book is kept from one to the next: by value, and in place in a buffer through the C interface. The announcement is that of document 01's worked session, and the
 // applications are its first one with other senders, times and amounts; the session is read from the
 // file that the first argument names. With --check it only compares what the tender holds after
 // receptions, and the last reply.
@@ -11,6 +11,8 @@
 #include <stdlib.h>
 #include <string.h>
 #include <time.h>
+
+#include "optes_book.h"
 
 enum { HEAD = 3, CLOCK = 14, ANNOUNCEMENT = 0xA1, RECEPTION = 0xA2, CONFIRMATION = 59, SPACE = 418 };
 enum { RUNS = 200, RECEPTIONS = 2000, COMPARED = 200, FEW_CODES = 3, MOST_CODES = 64, FIRST_CODE = 90001 };
@@ -91,15 +93,50 @@ static void compose(size_t codes)
     }
 }
 
-// The eurocents that a tender for so many codes holds after the first applications.
-static uint64_t receive(size_t codes, size_t receptions, uint8_t space[SPACE])
+// A way to receive the first applications by a tender for so many codes; gives the eurocents that it holds then.
+typedef uint64_t receiver(size_t codes, size_t receptions, uint8_t space[SPACE]);
+
+static void admit(size_t codes, uint32_t admitted[MOST_CODES])
+{
+    for (size_t c = 0; c < codes; c++)
+        admitted[c] = (uint32_t)(FIRST_CODE + c);
+}
+
+static uint64_t by_value(size_t codes, size_t receptions, uint8_t space[SPACE])
 {
     struct part announcement = first_field(ANNOUNCEMENT);
     uint32_t admitted[MOST_CODES];
-    for (size_t c = 0; c < codes; c++)
-        admitted[c] = (uint32_t)(FIRST_CODE + c);
+    admit(codes, admitted);
     return measured_receptions(announcement.bytes, announcement.length, admitted, codes, applications[0],
         receptions * APPLICATION, 12032012, 103000, space, SPACE);
+}
+
+static uint64_t held_in(const struct optes_book *book, size_t codes)
+{
+    uint64_t sum = 0;
+    for (size_t c = 0; c < codes; c++) {
+        struct optes_held held;
+        if (optes_book_held(book, FIRST_CODE + c, &held) != OPTES_OK)
+            fail("the buffer holds no tender");
+        for (size_t k = 0; k < OPTES_BOOK_CODE_PLACES; k++)
+            sum += held.amounts[k];
+    }
+    return sum;
+}
+
+static uint64_t in_place(size_t codes, size_t receptions, uint8_t space[SPACE])
+{
+    static struct optes_book book;
+    struct part announcement = first_field(ANNOUNCEMENT);
+    uint32_t admitted[MOST_CODES];
+    admit(codes, admitted);
+    if (optes_book_open(&book, announcement.bytes, announcement.length, admitted, codes) != OPTES_OK)
+        fail("the tender is not opened");
+    for (size_t k = 0; k < receptions; k++) {
+        struct optes_answer answer;
+        optes_book_receive(&book, applications[k], APPLICATION, 12032012, 103000, space, SPACE, &answer);
+    }
+    return held_in(&book, codes);
 }
 
 // The same by counting: the last application of each counterparty is the one that is held.
@@ -113,7 +150,7 @@ static uint64_t expected(size_t codes, size_t receptions)
 }
 
 // After each reception, so that one that was not accepted is seen.
-static void compare(size_t codes)
+static void compare(const char *way, receiver *receive, size_t codes)
 {
     compose(codes);
     for (size_t n = 1; n <= COMPARED; n++) {
@@ -126,8 +163,8 @@ static void compare(size_t codes)
         if (space[CONFIRMATION] != 0xEE || space[SPACE - 1] != 0xEE)
             fail("a byte past the confirmation was written");
     }
-    printf("%d receptions, %zu codes: each is confirmed and held, and the bytes past a confirmation stay\n",
-        COMPARED, codes);
+    printf("%d receptions %s, %zu codes: each is confirmed and held, and the bytes past a confirmation stay\n",
+        COMPARED, way, codes);
 }
 
 static double now(void)
@@ -137,7 +174,7 @@ static double now(void)
     return (double)t.tv_sec * 1e9 + (double)t.tv_nsec;
 }
 
-static void measure(size_t codes)
+static void measure(const char *way, receiver *receive, size_t codes)
 {
     uint8_t space[SPACE];
     double least = 1e18;
@@ -148,7 +185,7 @@ static void measure(size_t codes)
         double each = (now() - start) / RECEPTIONS;
         least = each < least ? each : least;
     }
-    printf("an application received and held, %2zu codes %10.2f ns\n", codes, least);
+    printf("an application received %s and held, %2zu codes %10.2f ns\n", way, codes, least);
 }
 
 int main(int argc, char **argv)
@@ -159,11 +196,15 @@ int main(int argc, char **argv)
         return 2;
     }
     read_session(argv[1]);
-    compare(FEW_CODES);
-    compare(MOST_CODES);
+    compare("by value", by_value, FEW_CODES);
+    compare("by value", by_value, MOST_CODES);
+    compare("in place", in_place, FEW_CODES);
+    compare("in place", in_place, MOST_CODES);
     if (!only_compare) {
-        measure(FEW_CODES);
-        measure(MOST_CODES);
+        measure("by value", by_value, FEW_CODES);
+        measure("by value", by_value, MOST_CODES);
+        measure("in place", in_place, FEW_CODES);
+        measure("in place", in_place, MOST_CODES);
     }
     return 0;
 }
