@@ -7,7 +7,9 @@ use lib.Dec.{leb}
 use lib.ListN.{length, take, drop}
 use Rattle.output.specs.Output.{Wrote}
 use Rattle.log.specs.Steps.{Log, start, holdsField, logFrom, logOf}
+use Rattle.steps.specs.Viewed as steps
 use Rattle.journal.specs.declared.Logged.{Logged}
+use Rattle.journal.specs.declared.internal.Ran.{Ran}
 use Rattle.journal.specs.Viewed.{viewed, Given}
 
 -- text is written at the start of the space, and the log of the bytes s from a state on, whatever follows them, is the text and then the log of what is left of them from the next state on
@@ -23,6 +25,16 @@ pub record Logs (from : Log) (input space : List ℕ) (r : Logged) (after : List
   pub room : r .length ≤ length space
   pub all : (holdsField (drop (r .used) input) && not (r .journal .ended) && leb 23040 (length space - r .length)) ≡ false
   pub given : Given (r .journal)
+
+-- the same of a run in codes and words that were lent: those that it left are as many, and may be lent to the next run
+pub record LogsIn (from : Log) (input space : List ℕ) (r : Ran) (codes words after : List ℕ) : Type 0 where
+  pub runs : Runs from input space (steps.viewed (r .standing) codes words) (drop (r .used) input) after (r .length)
+  pub within : r .used ≤ length input
+  pub room : r .length ≤ length space
+  pub all : (holdsField (drop (r .used) input) && not (r .standing .ended) && leb 23040 (length space - r .length)) ≡ false
+  pub given : steps.Given (r .standing) words
+  pub codes-length : length codes ≡ 65
+  pub words-length : length words ≡ 1496
 
 -- runs one after another over an input that arrives in pieces: each takes what the last one left and then more of the input
 pub data RunsAll : Log → List ℕ → List ℕ → Type 0 where

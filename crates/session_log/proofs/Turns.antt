@@ -10,13 +10,14 @@ use lib.Dec.{leb, eqb}
 use lib.ListN.{length, take, drop, take-append-drop, length-take, length-drop}
 use lib.Seq.{drop-drop, take-take, take-nil, take-at, length-take-le}
 use Rattle.log.specs.Steps.{Log, holdsField, logFrom}
-use Rattle.journal.specs.Runs.{Runs, Logs, RunsAll, no-more, and-next}
-use Rattle.journal.specs.declared.Logged.{Logged}
-use Rattle.journal.specs.Viewed.{viewed}
+use Rattle.steps.specs.declared.Standing.{Standing}
+use Rattle.steps.specs.Viewed.{viewed, Given}
+use Rattle.journal.specs.Runs.{Runs, LogsIn, RunsAll, no-more, and-next}
+use Rattle.journal.specs.declared.internal.Ran.{Ran}
 use Rattle.journal.proofs.Whole.{written-first, log-of-runs}
 use Rattle.session_log.specs.declared.Turn.{Turn}
 use Rattle.session_log.specs.Turns as turns
-use Rattle.session_log.specs.Turns.{waiting, Within, Lines, TakesFields, ReadsMore, Turned, TurnsAll, LogOfTurns}
+use Rattle.session_log.specs.Turns.{waiting, Within, Journal, Lines, TakesFields, ReadsMore, Turned, TurnsAll, LogOfTurns}
 
 -- what is left of a part of the buffer is a part of the buffer
 drop-take : (u n : ℕ) (l : List ℕ) → drop u (take n l) ≡ take (n - u) (drop u l)
@@ -50,34 +51,44 @@ waiting-length {t} {input} w =
     let fits : t .to - t .from ≤ length (drop (t .from) input) = rw (length-drop (t .from) input) (omega (arith, inside)) in
     length-take-le (t .to - t .from) (drop (t .from) input) fits
 
--- the turn after a run over all that waited
-pub taken-by : (t : Turn) (input space after : List ℕ) (l : Logged) (more : Bool) → Within t input → 23040 ≤ length space → Logs (viewed (t .journal)) (waiting t input) space l after → TakesFields t input space (record { more = more; reads = eqb (l .length) 0; from = t .from + l .used; to = t .to; length = l .length; journal = l .journal }) after
-taken-by t input space after l more w room k =
-    let left = left-waits (t .from) (t .to) (l .used) input in
+-- what a run took lies before the index where the waiting bytes end
+pub used-within : {t : Turn} {input : List ℕ} {used : ℕ} → Within t input → used ≤ length (waiting t input) → t .from + used ≤ t .to
+used-within w used =
     let n = waiting-length w in
-    let within = k .within in
     let ordered = w .ordered in
+    omega (arith, n, used, ordered)
+
+-- the turn after a run over all that waited
+abbrev pub turnOf : Turn → Ran → Bool → Turn
+turnOf t ran more = record { more = more; reads = eqb (ran .length) 0; from = t .from + ran .used; to = t .to; length = ran .length; standing = ran .standing }
+
+pub taken-by : (t : Turn) (codes words input space : List ℕ) (ran : Ran) (codes₂ words₂ after : List ℕ) (more : Bool)
+    → Within t input → 23040 ≤ length space → LogsIn (viewed (t .standing) codes words) (waiting t input) space ran codes₂ words₂ after
+    → TakesFields t codes words input space (turnOf t ran more) codes₂ words₂ after
+taken-by t codes words input space ran codes₂ words₂ after more w room k =
+    let left = left-waits (t .from) (t .to) (ran .used) input in
     record {
-      runs = subst (λ (x : List ℕ). Runs (viewed (t .journal)) (waiting t input) space (viewed (l .journal)) x after (l .length)) left (k .runs);
+      runs = subst (λ (x : List ℕ). Runs (viewed (t .standing) codes words) (waiting t input) space (viewed (ran .standing) codes₂ words₂) x after (ran .length)) left (k .runs);
       room = k .room;
-      within = record { given = k .given; ordered = omega (arith, n, within, ordered); inside = w .inside };
+      within = record { ordered = used-within w (k .within); inside = w .inside };
+      journal = record { given = k .given; codes-length = k .codes-length; words-length = k .words-length };
       all = λ h.
-          none-whole (holdsField (waiting (record { more = more; reads = eqb (l .length) 0; from = t .from + l .used; to = t .to; length = l .length; journal = l .journal }) input)) (not (l .journal .ended)) (length space) (l .length)
-          (subst (λ (x : List ℕ). (holdsField x && not (l .journal .ended) && leb 23040 (length space - l .length)) ≡ false) left (k .all))
+          none-whole (holdsField (waiting (turnOf t ran more) input)) (not (ran .standing .ended)) (length space) (ran .length)
+          (subst (λ (x : List ℕ). (holdsField x && not (ran .standing .ended) && leb 23040 (length space - ran .length)) ≡ false) left (k .all))
           room
-          (eqb-true (l .length) 0 h);
+          (eqb-true (ran .length) 0 h);
     }
 
 -- the turn after a read behind what waited, which was moved to the start of the buffer
-pub read-behind : (t : Turn) (input moved after : List ℕ) (n : ℕ) (more : Bool) → Within t input → moved ≡ waiting t input ++ drop (t .to - t .from) input → take (t .to - t .from) after ≡ take (t .to - t .from) moved → t .to - t .from + n ≤ length after → ReadsMore t input (record { more = more; reads = false; from = 0; to = t .to - t .from + n; length = 0; journal = t .journal }) after
+pub read-behind : (t : Turn) (input moved after : List ℕ) (n : ℕ) (more : Bool) → Within t input → moved ≡ waiting t input ++ drop (t .to - t .from) input → take (t .to - t .from) after ≡ take (t .to - t .from) moved → t .to - t .from + n ≤ length after → ReadsMore t input (record { more = more; reads = false; from = 0; to = t .to - t .from + n; length = 0; standing = t .standing }) after
 read-behind t input moved after n more w e p inside =
     let left = t .to - t .from in
     let l = waiting-length w in
     let first : take left after ≡ waiting t input = p ∙ ap (take left) e ∙ take-at (waiting t input) (drop left input) left l in
     record {
       kept = kept-first (waiting t input) after left n l first;
-      journal-kept = refl;
-      within = record { given = w .given; ordered = omega arith; inside = inside };
+      standing-kept = refl;
+      within = record { ordered = omega arith; inside = inside };
       takes-next = refl;
     }
 
@@ -88,30 +99,44 @@ counted-within n left k after h m =
     let rest = length-drop left after in
     omega (arith, short, rest)
 
--- after a turn the indices lie in the buffer again
-pub still-within : {t r : Turn} {input space after lines : List ℕ} → Turned t input space r after lines → Within r after
-still-within {t} {r} {input} {space} {after} {lines} k = go (t .reads) refl
-  where
-    go : (b : Bool) → t .reads ≡ b → Within r after
-    go true e = k .read e .within
-    go false e = subst (Within r) (sym (k .taken e .0)) (k .taken e .1 .within)
+-- after a turn the indices lie in the buffer again, and its journal is one that a run left
+module _ {t r : Turn} {codes words input space codes₂ words₂ after lines : List ℕ} (k : Turned t codes words input space r codes₂ words₂ after lines) where
+  pub still-within : Within r after
+  still-within = go (t .reads) refl
+    where
+      go : (b : Bool) → t .reads ≡ b → Within r after
+      go true e = k .read e .2 .within
+      go false e = subst (Within r) (sym (k .taken e .0)) (k .taken e .1 .within)
+
+  pub still-journal : Journal t codes words → Journal r codes₂ words₂
+  still-journal j = go (t .reads) refl
+    where
+      go : (b : Bool) → t .reads ≡ b → Journal r codes₂ words₂
+      go true e =
+          let p = k .read e in
+          record {
+            given = subst₂ (λ (st : Standing) (w : List ℕ). Given st w) (sym (p .2 .standing-kept)) (sym (p .1)) (j .given);
+            codes-length = ap length (p .0) ∙ j .codes-length;
+            words-length = ap length (p .1) ∙ j .words-length;
+          }
+      go false e = k .taken e .1 .journal
 
 -- the lines of a run are the first bytes of its space
-pub lines-written : {t r : Turn} {input space after : List ℕ} → TakesFields t input space r after → Lines t r input (take (r .length) after)
-lines-written {t} {r} {input} {space} {after} k rest =
+pub lines-written : {t r : Turn} {codes words input space codes₂ words₂ after : List ℕ} → TakesFields t codes words input space r codes₂ words₂ after → Lines t codes words r codes₂ words₂ input (take (r .length) after)
+lines-written {t} {r} {codes} {words} {input} {space} {codes₂} {words₂} {after} k rest =
     k .runs .log rest
-    ∙ ap (λ (x : List ℕ). x ++ logFrom (viewed (r .journal)) (waiting r input ++ rest)) (sym (written-first space (k .runs .text) after (r .length) (k .runs .wrote)))
+    ∙ ap (λ (x : List ℕ). x ++ logFrom (viewed (r .standing) codes₂ words₂) (waiting r input ++ rest)) (sym (written-first space (k .runs .text) after (r .length) (k .runs .wrote)))
 
 -- turns are runs over what waited and what was read after it
-runs-of : {t : Turn} {input read text : List ℕ} → TurnsAll t input read text → RunsAll (viewed (t .journal)) (waiting t input ++ read) text
-runs-of {t} {input} (turns.no-more h) = subst (λ (s : List ℕ). RunsAll (viewed (t .journal)) s []) (sym (append-nil (waiting t input))) (no-more h)
-runs-of {t} {input} (turns.and-reads {r = r} {after = after} {read = read} {text = text} k more) =
+runs-of : {t : Turn} {codes words input read text : List ℕ} → TurnsAll t codes words input read text → RunsAll (viewed (t .standing) codes words) (waiting t input ++ read) text
+runs-of {t} {codes} {words} {input} (turns.no-more h) = subst (λ (s : List ℕ). RunsAll (viewed (t .standing) codes words) s []) (sym (append-nil (waiting t input))) (no-more h)
+runs-of {t} {codes} {words} {input} (turns.and-reads {r = r} {after = after} {read = read} {text = text} k more) =
     subst₂ (λ (l : Log) (s : List ℕ). RunsAll l s text)
-    (ap viewed (k .journal-kept))
+    (ap (λ (st : Standing). viewed st codes words) (k .standing-kept))
     (ap (λ (s : List ℕ). s ++ read) (k .kept) ∙ append-assoc (waiting t input) (turns.got t input r after) read)
     (runs-of more)
 runs-of (turns.and-takes {read = read} k more) = and-next read (k .runs) (runs-of more)
 
 pub log-of-turns : LogOfTurns
-log-of-turns t input read text j none k =
+log-of-turns t codes words input read text j none k =
     log-of-runs read text (subst₂ (λ (l : Log) (s : List ℕ). RunsAll l s text) j (ap (λ (s : List ℕ). s ++ read) none) (runs-of k))

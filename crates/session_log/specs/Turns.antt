@@ -4,73 +4,79 @@ use mathlib.Core.Bool.{true, false, not, _&&_}
 use mathlib.Core.List.{List, [], _++_}
 use Prim.Native.Nat.{ℕ, _-_, _≤_}
 use lib.ListN.{length, take, drop}
-use Rattle.log.specs.Steps.{Log, holdsField, logFrom, logOf}
+use Rattle.log.specs.Steps.{holdsField, logFrom, logOf}
 use Rattle.log.specs.Steps as log
 use Rattle.journal.specs.Runs.{Runs}
-use Rattle.journal.specs.Viewed.{viewed, Given}
+use Rattle.steps.specs.Viewed.{viewed, Given}
 use Rattle.session_log.specs.declared.Turn.{Turn}
 
 -- the bytes that were read and not yet taken: they stand in the buffer between two indices
 abbrev pub waiting : Turn → List ℕ → List ℕ
 waiting t input = take (t .to - t .from) (drop (t .from) input)
 
--- a turn whose indices lie in the buffer, with a journal that a run gave
+-- a turn whose indices lie in the buffer
 pub record Within (t : Turn) (input : List ℕ) : Type 0 where
-  pub given : Given (t .journal)
   pub ordered : t .from ≤ t .to
   pub inside : t .to ≤ length input
 
+-- the journal of a turn: its standing with the 65 codes and the 1,496 words that a run left
+pub record Journal (t : Turn) (codes words : List ℕ) : Type 0 where
+  pub given : Given (t .standing) words
+  pub codes-length : length codes ≡ 65
+  pub words-length : length words ≡ 1496
+
 -- a text is the lines of the fields that were taken between two turns: the log from the first turn on is the text and then the log from the second on, whatever follows
-abbrev pub Lines : Turn → Turn → List ℕ → List ℕ → Type 0
-Lines t r input text =
-    (rest : List ℕ) → logFrom (viewed (t .journal)) (waiting t input ++ rest) ≡ text ++ logFrom (viewed (r .journal)) (waiting r input ++ rest)
+abbrev pub Lines : Turn → List ℕ → List ℕ → Turn → List ℕ → List ℕ → List ℕ → List ℕ → Type 0
+Lines t codes words r codes₂ words₂ input text =
+    (rest : List ℕ) → logFrom (viewed (t .standing) codes words) (waiting t input ++ rest) ≡ text ++ logFrom (viewed (r .standing) codes₂ words₂) (waiting r input ++ rest)
 
 -- no whole field waits, or the log has ended
 abbrev pub NoneWhole : Turn → List ℕ → Type 0
-NoneWhole t input = (holdsField (waiting t input) && not (viewed (t .journal) .ended)) ≡ false
+NoneWhole t input = (holdsField (waiting t input) && not (t .standing .ended)) ≡ false
 
 -- a turn that takes fields: all that waits was handed to one run, what it left waits where it stands, and its lines are the first bytes of the space
-pub record TakesFields (t : Turn) (input space : List ℕ) (r : Turn) (after : List ℕ) : Type 0 where
-  pub runs : Runs (viewed (t .journal)) (waiting t input) space (viewed (r .journal)) (waiting r input) after (r .length)
+pub record TakesFields (t : Turn) (codes words input space : List ℕ) (r : Turn) (codes₂ words₂ after : List ℕ) : Type 0 where
+  pub runs : Runs (viewed (t .standing) codes words) (waiting t input) space (viewed (r .standing) codes₂ words₂) (waiting r input) after (r .length)
   pub room : r .length ≤ length space
   pub within : Within r input
+  pub journal : Journal r codes₂ words₂
   pub all : r .reads ≡ true → NoneWhole r input
 
 -- a turn that reads: what waited stands at the start of the buffer, and behind it what was read
 pub record ReadsMore (t : Turn) (input : List ℕ) (r : Turn) (after : List ℕ) : Type 0 where
   pub kept : waiting r after ≡ waiting t input ++ drop (length (waiting t input)) (waiting r after)
-  pub journal-kept : r .journal ≡ t .journal
+  pub standing-kept : r .standing ≡ t .standing
   pub within : Within r after
   pub takes-next : r .reads ≡ false
 
--- a turn reads or takes fields, as the last one said
-pub record Turned (t : Turn) (input space : List ℕ) (r : Turn) (input₂ after : List ℕ) : Type 0 where
-  pub read : t .reads ≡ true → ReadsMore t input r input₂
-  pub taken : t .reads ≡ false → (input₂ ≡ input) × TakesFields t input space r after
+-- a turn reads or takes fields, as the last one said; one that reads keeps the codes and the words
+pub record Turned (t : Turn) (codes words input space : List ℕ) (r : Turn) (codes₂ words₂ input₂ after : List ℕ) : Type 0 where
+  pub read : t .reads ≡ true → (codes₂ ≡ codes) × (words₂ ≡ words) × ReadsMore t input r input₂
+  pub taken : t .reads ≡ false → (input₂ ≡ input) × TakesFields t codes words input space r codes₂ words₂ after
 
 -- the bytes that a turn read
 abbrev pub got : Turn → List ℕ → Turn → List ℕ → List ℕ
 got t input r after = drop (length (waiting t input)) (waiting r after)
 
--- turns one after another: the bytes that they read, joined, and the lines that they handed to the write, joined
-pub data TurnsAll : Turn → List ℕ → List ℕ → List ℕ → Type 0 where
-  no-more : {t : Turn} {input : List ℕ} → NoneWhole t input → TurnsAll t input [] []
+-- turns one after another, each with the codes and words that the last one left: the bytes that they read, joined, and the lines that they handed to the write, joined
+pub data TurnsAll : Turn → List ℕ → List ℕ → List ℕ → List ℕ → List ℕ → Type 0 where
+  no-more : {t : Turn} {codes words input : List ℕ} → NoneWhole t input → TurnsAll t codes words input [] []
   and-reads :
-      {t r : Turn} {input after read text : List ℕ}
+      {t r : Turn} {codes words input after read text : List ℕ}
       → ReadsMore t input r after
-      → TurnsAll r after read text
-      → TurnsAll t input (got t input r after ++ read) text
+      → TurnsAll r codes words after read text
+      → TurnsAll t codes words input (got t input r after ++ read) text
   and-takes :
-      {t r : Turn} {input space after read text : List ℕ}
-      → TakesFields t input space r after
-      → TurnsAll r input read text
-      → TurnsAll t input read (take (r .length) after ++ text)
+      {t r : Turn} {codes words codes₂ words₂ input space after read text : List ℕ}
+      → TakesFields t codes words input space r codes₂ words₂ after
+      → TurnsAll r codes₂ words₂ input read text
+      → TurnsAll t codes words input read (take (r .length) after ++ text)
 
 -- from the first turn on, the lines handed to the write are document 01's log of the bytes read
 abbrev pub LogOfTurns : Type 0
 LogOfTurns =
-    (t : Turn) (input read text : List ℕ)
-    → viewed (t .journal) ≡ log.start
+    (t : Turn) (codes words input read text : List ℕ)
+    → viewed (t .standing) codes words ≡ log.start
     → waiting t input ≡ []
-    → TurnsAll t input read text
+    → TurnsAll t codes words input read text
     → text ≡ logOf read

@@ -24,9 +24,9 @@ part-write-lines-end c = search needs
 
 write-lines-requires : tie.Need-write-lines-requires
 write-lines-requires c κs =
-    let taken = c .before .before .before .before .take-fields in
-    let start = c .before .before .before .before .before .before .before .before .args in
-    subst (λ (k : ℕ). Lines (start .t) (taken .result) (now (start .input)) (take k (taken .last .1 .1 .0))) (sym (sub-zero (taken .result .length))) (lines-written (taken .ensures))
+    let taken = c .before .before .before .before .before .before .before .before .take-fields in
+    let a = c .before .before .before .before .before .before .before .before .before .before .before .before .before .before .before .before .args in
+    subst (λ (k : ℕ). Lines (a .t) (now (a .codes)) (now (a .words)) (taken .result) (taken .last .1 .0) (taken .last .1 .1 .0) (now (a .input)) (take k (taken .last .1 .1 .1 .1 .0))) (sym (sub-zero (taken .result .length))) (lines-written (taken .ensures))
 
 same-length : tie.Need-same-length
 same-length c = search needs

@@ -15,7 +15,7 @@ same-length : tie.Need-same-length
 same-length c = search needs
 
 returns : tie.Need-returns
-returns c = record { read = λ h. c .before .before .read-more .ensures; taken = λ h. absurd (true≢false (sym (c .before .before .before .before .if1 .taken) ∙ h)) }
+returns c = record { read = λ h. (refl, refl, c .before .before .read-more .ensures); taken = λ h. absurd (true≢false (sym (c .before .before .before .before .if1 .taken) ∙ h)) }
 
 same-length-2 : tie.Need-same-length-2
 same-length-2 c = search needs
@@ -24,7 +24,7 @@ same-length-3 : tie.Need-same-length-3
 same-length-3 c = search needs
 
 returns-2 : tie.Need-returns-2
-returns-2 c = record { read = λ h. absurd (true≢false (sym h ∙ c .before .before .before .before .before .if1 .left)); taken = λ h. (refl, c .before .before .log-fields .ensures) }
+returns-2 c = record { read = λ h. absurd (true≢false (sym h ∙ c .before .before .before .before .before .before .before .if1 .left)); taken = λ h. (refl, c .before .before .log-fields .ensures) }
 
 pub next-turn-spec : {M : Type 1} → statement M
 next-turn-spec =

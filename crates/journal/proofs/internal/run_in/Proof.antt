@@ -1,5 +1,4 @@
--- `journal::run` meets its contract. The loop's invariant: the fields up to an index are taken and their lines written. Assumes nothing.
-use borrow.Author.Needs.{needs}
+-- `journal::internal::run_in` meets its contract. The loop's invariant: the fields up to an index are taken and their lines written. Assumes nothing.
 use mathlib.Core.Path.{_≡_, sym, ap, _∙_}
 use mathlib.Core.Bool.{Bool, true, false, _&&_, not}
 use Prim.Native.Nat.{_+_, _-_, _≤_, _<_}
@@ -11,18 +10,18 @@ use borrow.Author.Tests.{leb-true, not-true}
 use Rattle.laws.proofs.Tests.{and-left, and-right}
 use Rattle.log.specs.Steps.{holdsField}
 use Rattle.log.proofs.Walks.{held-head}
-use Rattle.journal.specs.Viewed.{viewed}
+use Rattle.steps.specs.Viewed.{viewed}
 use Rattle.journal.proofs.Running.{ends-at}
-use Rattle.journal.proofs.Logging.{journalOf, wrote-within, field-taken, Logging, none-logged, room-left, one-logged}
-use Rattle.journal.proofs.run.Statement.{statement}
-use Rattle.journal.proofs.run.Tie as tie
+use Rattle.journal.proofs.Logging.{wrote-within, field-taken, Logging, none-logged, room-left, one-logged}
+use Rattle.journal.proofs.internal.run_in.Statement.{statement}
+use Rattle.journal.proofs.internal.run_in.Tie as tie
 
 abbrev Inv-loop : tie.InvT-loop
-Inv-loop input space₀ standing₀ codes₀ words₀ at₀ length₀ room space standing codes words at length =
-    Logging input space₀ (journalOf standing₀ codes₀ words₀) space (journalOf standing codes words) at length
+Inv-loop codes₀ words₀ input space₀ standing₀ at₀ length₀ room codes words space standing at length =
+    Logging input space₀ (viewed standing₀ codes₀ words₀) space standing codes words at length
 
 abbrev μ-loop : tie.MeasureT-loop
-μ-loop input space₀ standing₀ codes₀ words₀ at₀ length₀ room space standing codes words at m = length input - at
+μ-loop codes₀ words₀ input space₀ standing₀ at₀ length₀ room codes words space standing at m = length input - at
 
 -- the call, and the loop and the turn that a later place looks back to
 abbrev startOf : tie.At-loop Inv-loop μ-loop → tie.Start Inv-loop μ-loop
@@ -31,17 +30,10 @@ startOf c = c .before .before .before .before .before
 abbrev loopOf : tie.Then1 Inv-loop μ-loop → tie.At-loop Inv-loop μ-loop
 loopOf c = c .before .before .before
 
--- the lengths that arrays have by their types
-codes-full : (c : tie.Start Inv-loop μ-loop) → length (c .args .j .codes) ≡ 65
-codes-full c = search needs
-
-words-full : (c : tie.Start Inv-loop μ-loop) → length (c .args .j .words) ≡ 1496
-words-full c = search needs
-
 loop-holds : tie.Need-loop-holds Inv-loop μ-loop
 loop-holds c =
     let start = c .before .before .before .before in
-    none-logged (now (start .args .input)) (now (start .args .space)) _ (record { few = start .pre .few; tender = start .pre .tender }) (codes-full start) (words-full start)
+    none-logged (now (start .args .input)) (now (start .args .space)) _ (now (start .args .codes)) (now (start .args .words)) (start .pre .0) (start .pre .1 .0) (start .pre .1 .1)
 
 holds-field-requires : tie.Need-holds-field-requires Inv-loop μ-loop
 holds-field-requires c κs = c .loop .inv .within
@@ -83,14 +75,14 @@ ends : (c : tie.After-length-at Inv-loop μ-loop) → loopOf (c .before) .loop .
 ends c = ends-at (now (startOf (loopOf (c .before)) .args .input)) (loopOf (c .before) .loop .at) (c .length-at .result) (c .length-at .ensures .0) (field-there (c .before))
 
 -- no space is longer than an index, and no input
-space-short : (c : tie.After-slice-known Inv-loop μ-loop) → length (now (c .before .before .args .space)) < 18446744073709551616
+space-short : (c : tie.After-slice-known3 Inv-loop μ-loop) → length (now (c .before .before .before .before .args .space)) < 18446744073709551616
 space-short c = omega arith
 
-slice-short : (c : tie.After-shared-slice-known Inv-loop μ-loop) → length (now (c .before .args .input)) < 18446744073709551616
+slice-short : (c : tie.After-shared-slice-known Inv-loop μ-loop) → length (now (c .before .before .before .args .input)) < 18446744073709551616
 slice-short c = omega arith
 
 input-short : (c : tie.At-loop Inv-loop μ-loop) → length (now (startOf c .args .input)) < 18446744073709551616
-input-short c = slice-short (c .before .before .before .before)
+input-short c = slice-short (c .before .before)
 
 add-end : tie.Need-add-end Inv-loop μ-loop
 add-end c = let h = headed c in let k = input-short (loopOf c) in omega (arith, h, k)
@@ -100,12 +92,6 @@ length-at-requires c κs = headed c
 
 add-end-2 : tie.Need-add-end-2 Inv-loop μ-loop
 add-end-2 c = let h = ends c in let k = input-short (loopOf (c .before)) in omega (arith, h, k)
-
-slice-aggregate-step : tie.Need-slice-aggregate-step Inv-loop μ-loop
-slice-aggregate-step c = search needs
-
-slice-aggregate-step-2 : tie.Need-slice-aggregate-step-2 Inv-loop μ-loop
-slice-aggregate-step-2 c = search needs
 
 shared-slice-read-step : tie.Need-shared-slice-read-step Inv-loop μ-loop
 shared-slice-read-step c = let h = ends (c .before .before .before) in omega (arith, h)
@@ -137,12 +123,12 @@ step-requires c κs =
     let i = loopOf t .loop .inv in
     let left = room-left i in
     let r = roomy t in
-    (record { unended = unended t; given = record { few = i .given .few; tender = i .given .tender } }, (i .codes-length, i .words-length, omega (arith, left, r)))
+    (record { unended = unended t; given = i .given }, (i .codes-length, i .words-length, omega (arith, left, r)))
 
 add-length : tie.Need-add-length Inv-loop μ-loop
 add-length c =
-    let w = c .before .before .before .before .before .before .step in
-    let l = loopOf (c .before .before .before .before .before .before .before .before .before .before .before .before .before) .loop in
+    let w = c .before .before .before .before .before .before .before .before .step in
+    let l = loopOf (c .before .before .before .before .before .before .before .before .before .before .before .before .before .before .before) .loop in
     let h = wrote-within _ _ _ (w .result .length) (w .ensures .lines) (w .kept .1 .1 .1 .1 .1 .0) in
     let r = room-left (l .inv) in
     let o = l .inv .room in
@@ -150,22 +136,28 @@ add-length c =
     omega (arith, h, r, o, k)
 
 loop-less : tie.Need-loop-less Inv-loop μ-loop
-loop-less c = let h = ends (c .before .before .before .before .before .before .before .before .before .before .before .before) in omega (arith, h)
+loop-less c = let h = ends (c .before .before .before .before .before .before .before .before .before .before .before .before .before .before) in omega (arith, h)
 
 loop-again : tie.Need-loop-again Inv-loop μ-loop
 loop-again c =
-    let w = c .before .before .before .before .before .before .step in
-    let head = c .before .before .before .before .before .before .before .before .before .before .before .before in
+    let w = c .before .before .before .before .before .before .before .before .step in
+    let head = c .before .before .before .before .before .before .before .before .before .before .before .before .before .before in
     let t = head .before in
     let l = loopOf t .loop in
     let n = head .length-at in
     let r = w .result in
-    one-logged (l .inv) (journalOf (r .standing) (w .last .1 .0) (w .last .1 .1 .0)) (l .at + 3 + n .result) (r .length) (w .last .1 .1 .1 .1 .1 .0)
-    (field-taken (now (startOf (loopOf t) .args .input)) (l .at) (n .result) (n .ensures .0) (viewed (journalOf (l .standing) (l .codes) (l .words))) _ _ (w .last .1 .0) (w .last .1 .1 .0) r (field-there t) (unended t) (w .ensures))
-    (w .kept .1 .1 .1 .1 .1 .0) (ends head) (record { few = w .ensures .given .few; tender = w .ensures .given .tender }) (w .kept .1 .0) (w .kept .1 .1 .0)
+    one-logged (l .inv) (r .standing) (w .last .1 .0) (w .last .1 .1 .0) (l .at + 3 + n .result) (r .length) (w .last .1 .1 .1 .1 .1 .0)
+    (field-taken (now (startOf (loopOf t) .args .input)) (l .at) (n .result) (n .ensures .0) (viewed (l .standing) (l .codes) (l .words)) _ _ (w .last .1 .0) (w .last .1 .1 .0) r (field-there t) (unended t) (w .ensures))
+    (w .kept .1 .1 .1 .1 .1 .0) (ends head) (w .ensures .given) (w .kept .1 .0) (w .kept .1 .1 .0)
 
 same-length : tie.Need-same-length Inv-loop μ-loop
-same-length c = c .before .before .before .loop .inv .same
+same-length c = c .before .before .before .loop .inv .codes-length ∙ sym (c .before .before .before .before .before .before .before .before .pre .1 .0)
+
+same-length-2 : tie.Need-same-length-2 Inv-loop μ-loop
+same-length-2 c = c .before .before .before .loop .inv .words-length ∙ sym (c .before .before .before .before .before .before .before .before .pre .1 .1)
+
+same-length-3 : tie.Need-same-length-3 Inv-loop μ-loop
+same-length-3 c = c .before .before .before .loop .inv .same
 
 returns : tie.Need-returns Inv-loop μ-loop
 returns c =
@@ -177,10 +169,12 @@ returns c =
       room = l .inv .room;
       all = ap (λ (b : Bool). b && not (l .standing .ended) && leb 23040 (length space - l .length)) (sym (c .before .before .holds-field .ensures)) ∙ c .if1 .left;
       given = l .inv .given;
+      codes-length = l .inv .codes-length;
+      words-length = l .inv .words-length;
     }
 
-pub run-spec : {M : Type 1} → statement M
-run-spec =
+pub run-in-spec : {M : Type 1} → statement M
+run-in-spec =
     tie.close
     (tie.spec
     Inv-loop
@@ -191,8 +185,6 @@ run-spec =
     add-end
     length-at-requires
     add-end-2
-    slice-aggregate-step
-    slice-aggregate-step-2
     shared-slice-read-step
     add-step
     sub-step
@@ -206,4 +198,6 @@ run-spec =
     loop-less
     loop-again
     same-length
+    same-length-2
+    same-length-3
     returns)
