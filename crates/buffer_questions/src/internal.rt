@@ -2,10 +2,10 @@
 // makes tests them first.
 use book::index_of;
 use book::is_found;
+use buffer::internal::terms_in;
 use buffer::narrow;
-use buffer::terms_in;
 use buffer_opening::internal::put_terms;
-use buffer_search::find;
+use buffer_search::internal::find;
 use numbers::internal::put;
 use numbers::internal::put_first;
 use numbers::internal::put_three;

@@ -1,10 +1,10 @@
 // Each call asks for words that hold a tender, and leaves such words.
 use book::up_to_64;
+use buffer::internal::terms_in;
 use buffer::narrow;
 use buffer::state_of;
-use buffer::terms_in;
-use buffer_search::find;
-use buffer_search::takes;
+use buffer_search::internal::find;
+use buffer_search::internal::takes;
 use digits::number_of;
 use errors::Errors;
 use errors::none;

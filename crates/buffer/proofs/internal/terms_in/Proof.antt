@@ -1,4 +1,4 @@
--- `buffer::terms_in` meets its contract. Assumes nothing.
+-- `buffer::internal::terms_in` meets its contract. Assumes nothing.
 use borrow.Author.Needs.{needs}
 use mathlib.Core.Path.{ap₂}
 use mathlib.Core.List.{List}
@@ -8,8 +8,8 @@ use lib.ListN.{getD}
 use Rattle.announcement.specs.declared.Side.{Side}
 use Rattle.book.specs.Viewed.{rateOf, amountOf}
 use Rattle.buffer.specs.Words.{termsIn}
-use Rattle.buffer.proofs.terms_in.Statement.{statement}
-use Rattle.buffer.proofs.terms_in.Tie as tie
+use Rattle.buffer.proofs.internal.terms_in.Statement.{statement}
+use Rattle.buffer.proofs.internal.terms_in.Tie as tie
 
 sub-identifier-in : tie.Need-sub-identifier-in
 sub-identifier-in c = search needs

@@ -1,9 +1,9 @@
--- `buffer_search::search` meets its contract. Assumes nothing.
+-- `buffer_search::internal::search` meets its contract. Assumes nothing.
 use borrow.Author.Needs.{needs}
 use denote.Ref.{now}
 use Rattle.buffer_search.proofs.Halving.{search-found, search-past, search-other}
-use Rattle.buffer_search.proofs.search.Statement.{statement}
-use Rattle.buffer_search.proofs.search.Tie as tie
+use Rattle.buffer_search.proofs.internal.search.Statement.{statement}
+use Rattle.buffer_search.proofs.internal.search.Tie as tie
 
 below-requires : tie.Need-below-requires
 below-requires c κs = search needs

@@ -1,11 +1,11 @@
--- `buffer_search::half` meets its contract. Assumes nothing.
+-- `buffer_search::internal::half` meets its contract. Assumes nothing.
 use borrow.Author.Needs.{needs}
 use Prim.Native.Nat.{_+_, _-_, _/_}
 use native.Mathlib.Omega.{arith}
 use denote.Ref.{now}
 use Rattle.buffer_search.proofs.Halving.{upper-half, lower-half}
-use Rattle.buffer_search.proofs.half.Statement.{statement}
-use Rattle.buffer_search.proofs.half.Tie as tie
+use Rattle.buffer_search.proofs.internal.half.Statement.{statement}
+use Rattle.buffer_search.proofs.internal.half.Tie as tie
 
 sub-middle : tie.Need-sub-middle
 sub-middle c = search needs

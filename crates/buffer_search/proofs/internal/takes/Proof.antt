@@ -1,4 +1,4 @@
--- `buffer_search::takes` meets its contract. Assumes nothing.
+-- `buffer_search::internal::takes` meets its contract. Assumes nothing.
 use borrow.Author.Needs.{needs}
 use mathlib.Core.Path.{_≡_, refl, sym, ap, _∙_}
 use mathlib.Core.Bool.{Bool, true, false, cond, _||_}
@@ -15,8 +15,8 @@ use Rattle.book.specs.declared.Found.the-variants.{At}
 use Rattle.book.specs.Viewed.{indexOf, takenAt}
 use Rattle.buffer.specs.Words.{bookIn}
 use Rattle.buffer.proofs.Words.{held-at}
-use Rattle.buffer_search.proofs.takes.Statement.{statement}
-use Rattle.buffer_search.proofs.takes.Tie as tie
+use Rattle.buffer_search.proofs.internal.takes.Statement.{statement}
+use Rattle.buffer_search.proofs.internal.takes.Tie as tie
 
 enum-known-found : tie.Need-enum-known-found
 enum-known-found c = search needs

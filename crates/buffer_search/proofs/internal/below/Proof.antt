@@ -1,4 +1,4 @@
--- `buffer_search::below` meets its contract. The loop's invariant: the code stands between the ends of the span. Assumes nothing.
+-- `buffer_search::internal::below` meets its contract. The loop's invariant: the code stands between the ends of the span. Assumes nothing.
 use mathlib.Core.Path.{_≡_, subst}
 use mathlib.Core.Bool.{true}
 use Prim.Native.Nat.{ℕ, _-_}
@@ -7,8 +7,8 @@ use denote.Ref.{now}
 use Rattle.rules.specs.Opening.{rising}
 use Rattle.buffer_search.specs.Halving.{Between}
 use Rattle.buffer_search.proofs.Halving.{whole}
-use Rattle.buffer_search.proofs.below.Statement.{statement}
-use Rattle.buffer_search.proofs.below.Tie as tie
+use Rattle.buffer_search.proofs.internal.below.Statement.{statement}
+use Rattle.buffer_search.proofs.internal.below.Tie as tie
 
 abbrev Inv-loop : tie.InvT-loop
 Inv-loop codes code s₀ s = (rising codes ≡ true) × Between codes code (s .low) (s .high)

@@ -1,9 +1,9 @@
--- `buffer::side_of` meets its contract. Assumes nothing.
+-- `buffer::internal::side_of` meets its contract. Assumes nothing.
 use mathlib.Core.Path.{refl, sym}
 use borrow.Author.Tests.{eq-eqb, ne-eqb}
 use Rattle.buffer.specs.Words.{sideIn}
-use Rattle.buffer.proofs.side_of.Statement.{statement}
-use Rattle.buffer.proofs.side_of.Tie as tie
+use Rattle.buffer.proofs.internal.side_of.Statement.{statement}
+use Rattle.buffer.proofs.internal.side_of.Tie as tie
 
 returns : tie.Need-returns
 unfolding sideIn

@@ -1,4 +1,4 @@
--- `buffer::identifier_in` meets its contract. The loop's invariant: the first i bytes are written. Assumes nothing.
+-- `buffer::internal::identifier_in` meets its contract. The loop's invariant: the first i bytes are written. Assumes nothing.
 use mathlib.Core.Path.{_≡_, refl}
 use Prim.Native.Nat.{ℕ, _-_, _≤_}
 use native.Mathlib.Omega.{arith}
@@ -6,8 +6,8 @@ use denote.Ref.{now}
 use lib.ListN.{length, length-replicate}
 use Rattle.book.proofs.Mapped.{MappedTo, mapped-more, mapped-all}
 use Rattle.buffer.specs.Words.{byteIn}
-use Rattle.buffer.proofs.identifier_in.Statement.{statement}
-use Rattle.buffer.proofs.identifier_in.Tie as tie
+use Rattle.buffer.proofs.internal.identifier_in.Statement.{statement}
+use Rattle.buffer.proofs.internal.identifier_in.Tie as tie
 
 abbrev Inv-loop : tie.InvT-loop
 Inv-loop words identifier₀ i₀ identifier i = (i ≤ 11) × MappedTo byteIn words identifier₀ identifier i

@@ -1,4 +1,4 @@
--- `buffer_search::find` meets its contract: the codes of the book are those that are searched. Assumes nothing.
+-- `buffer_search::internal::find` meets its contract: the codes of the book are those that are searched. Assumes nothing.
 use borrow.Author.Needs.{needs}
 use mathlib.Core.Path.{_≡_, sym, ap, _∙_}
 use mathlib.Core.List.{List}
@@ -13,8 +13,8 @@ use Rattle.buffer.specs.Words.{bookIn}
 use Rattle.buffer.proofs.Words.{Known, known, codes-are, codes-rise}
 use Rattle.buffer_search.specs.Halving.{findIn}
 use Rattle.buffer_search.proofs.Halving.{find-codes}
-use Rattle.buffer_search.proofs.find.Statement.{statement}
-use Rattle.buffer_search.proofs.find.Tie as tie
+use Rattle.buffer_search.proofs.internal.find.Statement.{statement}
+use Rattle.buffer_search.proofs.internal.find.Tie as tie
 
 knows : (c : tie.Start) → Known (now (c .args .words))
 knows c = known (now (c .args .words)) (c .pre)
