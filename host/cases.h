@@ -10,4 +10,7 @@ void whole_cases(const struct buffers *b);
 void writing_cases(const struct buffers *b);
 void application_cases(const struct buffers *b);
 
+// The cases that need no buffers.
+void text_cases(void);
+
 #endif

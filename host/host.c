@@ -64,6 +64,7 @@ static void cases(enum guard guard)
 int main(void)
 {
     constants();
+    text_cases();
     example();
     cases(GUARD_AFTER);
     cases(GUARD_BEFORE);

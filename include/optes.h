@@ -13,12 +13,9 @@
 #include <stdint.h>
 #include <string.h>
 
-// What a call returns: OPTES_OK, or the number of its refusal. Reading is refused with OPTES_UNREADABLE
-// alone, writing with the other two.
-#define OPTES_OK 0
-#define OPTES_UNREADABLE 12 // The message cannot be read as a 6G1.
-#define OPTES_UNFIT 17      // A number is too wide, a text of the wrong length, or the identifier malformed.
-#define OPTES_NO_ROOM 18    // The space to write to is under OPTES_6G1_BYTES.
+// OPTES_VERSION, what the calls return, and its texts. Reading is refused with OPTES_UNREADABLE alone, writing
+// with OPTES_UNFIT and OPTES_NO_ROOM.
+#include "optes_common.h"
 
 // The fields of a message by their numbers, and how many there are.
 #define OPTES_6G1_TYPE 0

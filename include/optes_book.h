@@ -17,26 +17,9 @@
 #include <stddef.h>
 #include <stdint.h>
 
-// What a call returns: OPTES_OK, or the number of the first refusal that applies. Each call says below which
-// ones it has. The names that optes.h has too mean the same there.
-#define OPTES_OK 0
-#define OPTES_NOT_ANNOUNCEMENT 1   // The announcement's fields, order or lengths are wrong.
-#define OPTES_OTHER_ORIGIN 2       // Its type is not 6G0 or its sender not 01000.
-#define OPTES_MALFORMED 3          // A digit field, date, time, slash or identifier in it is malformed.
-#define OPTES_UNKNOWN_TYPE 4       // Its field 6G1 is none of the types of operation.
-#define OPTES_IMPOSSIBLE 5         // Most bids not 1 to 10, an amount zero, or the maximum below the minimum.
-#define OPTES_DISORDERED 6         // Its dates are out of order.
-#define OPTES_BAD_CODES 7          // The codes are none, over 64, not strictly rising, or one is over 99999.
-#define OPTES_ALREADY_REVOKED 8    // The tender is revoked.
-#define OPTES_ALREADY_OVER 9       // It is closed or announced.
-#define OPTES_CLOCK_INVALID 10     // The clock's date or time is invalid.
-#define OPTES_SPACE_SHORT 11       // The reply space is under OPTES_REPLY_BYTES.
-#define OPTES_UNREADABLE 12        // The message cannot be read as a 6G1.
-#define OPTES_BEFORE_CUT_OFF 13    // The cut-off has not passed.
-#define OPTES_STILL_OPEN 14        // The tender is open.
-#define OPTES_ALREADY_ANNOUNCED 15 // It is announced.
-#define OPTES_BIDS_EXCEED 16       // The bids exceed 999,999,999,999,999,999 eurocents.
-#define OPTES_NO_TENDER 100        // The words are not those of a tender: too few, or no call left them so.
+// OPTES_VERSION, what the calls return, the errors of a message, and the texts of both. Each call says below
+// which refusals it has.
+#include "optes_common.h"
 
 // Where a tender stands.
 #define OPTES_STATE_OPEN 0
@@ -66,27 +49,6 @@
 #define OPTES_BOOK_TERMS_NUMBERS 21
 #define OPTES_BOOK_CODES_NUMBERS 65
 #define OPTES_BOOK_HELD_NUMBERS 23
-
-// The errors with which a message is returned, by the field that they are about.
-#define OPTES_ERROR_TYPE 900          // 001: the type is not 6G1.
-#define OPTES_ERROR_SENDER 309        // 040: the sender is not digits.
-#define OPTES_ERROR_NOT_ADMITTED 300  // 040: the sender is not admitted.
-#define OPTES_ERROR_RECIPIENT 599     // 050: the recipient is not 01000.
-#define OPTES_ERROR_CRO 521           // 020: the CRO is not digits.
-#define OPTES_ERROR_DATE 502          // D31: the reference date is no date.
-#define OPTES_ERROR_OTHER_DATE 522    // D31: it is not the execution date.
-#define OPTES_ERROR_TIME 503          // 601: the reference time is no time.
-#define OPTES_ERROR_OLD 302           // 601: it is not later than the one that is held.
-#define OPTES_ERROR_CHECK 908         // 010: the check digit is not digits.
-#define OPTES_ERROR_IDENTIFIER 303    // 6G0: the identifier is not this tender's.
-#define OPTES_ERROR_PLACE 901         // 6G6: a place is malformed.
-#define OPTES_ERROR_GAP 902           // 6G6: a filled place stands after a zero one.
-#define OPTES_ERROR_MANY 903          // 6G6: more places are filled than are allowed.
-#define OPTES_ERROR_RATE 904          // 6G6: a rate has one of its last three digits not zero.
-#define OPTES_ERROR_BELOW_MINIMUM 905 // 6G6: an amount is below the minimum.
-#define OPTES_ERROR_INCREMENT 906     // 6G6: an amount is not the minimum plus a multiple of the increment.
-#define OPTES_ERROR_MAXIMUM 907       // 6G6: the total is above the maximum that was told.
-#define OPTES_ERROR_LATE 301          // 6G5: received later than the cut-off.
 
 #ifdef __cplusplus
 extern "C" {
@@ -120,7 +82,7 @@ struct optes_book {
 struct optes_answer {
     uint64_t length; // How many bytes the reply has.
     uint64_t errors; // How many errors the message has.
-    uint64_t codes[OPTES_BOOK_ERRORS]; // Their codes in the order of the checks, zeros past the last.
+    uint64_t codes[OPTES_BOOK_ERRORS]; // OPTES_ERROR_ codes in the order of the checks, then zeros.
 };
 
 // The awards and the marginal rate.

@@ -1,4 +1,6 @@
 // A host in C of the tender book: every call and every refusal, held to what document 01 says.
+#include <string.h>
+
 #include "cases.h"
 #include "check.h"
 
@@ -25,6 +27,14 @@ static void constants(void)
     CHECK(OPTES_ERROR_GAP == 902 && OPTES_ERROR_MANY == 903 && OPTES_ERROR_RATE == 904);
     CHECK(OPTES_ERROR_BELOW_MINIMUM == 905 && OPTES_ERROR_INCREMENT == 906);
     CHECK(OPTES_ERROR_MAXIMUM == 907 && OPTES_ERROR_LATE == 301);
+}
+
+// The version and the texts are there with this header alone; host/texts.c looks at all of them.
+static void texts(void)
+{
+    CHECK(OPTES_VERSION[0] == '0' + OPTES_VERSION_NUMBER / 10000);
+    CHECK(strcmp(optes_refusal_text(OPTES_STILL_OPEN), "the tender is open") == 0);
+    CHECK(strcmp(optes_error_text(OPTES_ERROR_CRO), "the CRO is not digits") == 0);
 }
 
 // The structs that are passed as arrays have no room between their numbers.
@@ -59,6 +69,7 @@ static void cases(enum guard guard)
 int main(void)
 {
     constants();
+    texts();
     sizes();
     cases(GUARD_AFTER);
     cases(GUARD_BEFORE);

@@ -63,8 +63,8 @@ static void show_fields(const uint8_t *reply, size_t length, bool returned)
 static void show_errors(const struct optes_answer *answer)
 {
     for (uint64_t k = 0; k < answer->errors && k < OPTES_BOOK_ERRORS; k++) {
-        struct error error = error_of(answer->codes[k]);
-        printf("    error %s - %" PRIu64 ": %s\n", error.field, error.code, error.text);
+        uint64_t code = answer->codes[k];
+        printf("    error %s - %" PRIu64 ": %s\n", error_field(code), code, optes_error_text(code));
     }
 }
 
