@@ -62,6 +62,7 @@ static void expect_same(const struct optes_application *a, const struct optes_ap
         CHECK(a->places[k].amount == expected->places[k].amount);
         CHECK(a->places[k].well_formed == expected->places[k].well_formed);
     }
+    CHECK(a->unread == expected->unread);
     expect_texts(a, expected);
 }
 
@@ -85,7 +86,7 @@ static void unreadable(const struct buffers *b, const void *bytes, size_t n)
 }
 
 // The application is written as these bytes, and the byte past them stays.
-static void written_as(const struct buffers *b, const struct optes_application *a, const char *expected)
+static void written_as(const struct buffers *b, const struct optes_application *a, const void *expected)
 {
     uint8_t *space = guarded_bytes(&b->space, MESSAGE_BYTES + 1);
     pattern_put(space, MESSAGE_BYTES + 1);
@@ -127,34 +128,81 @@ static void written_then_read(const struct buffers *b)
     expect_same(a, &expected);
 }
 
-// Digit field k of the six without its number, in the application that is expected.
+// Digit field k of the six without its number, or after them place k - 6, in the application that is expected.
 static void without_number(struct optes_application *a, size_t k)
 {
     uint64_t *number[DIGIT_FIELDS] = {&a->sender, &a->recipient, &a->cro, &a->date, &a->time, &a->check};
     uint32_t *flag[DIGIT_FIELDS] = {&a->has_sender, &a->has_recipient, &a->has_cro,
                                     &a->has_date, &a->has_time, &a->has_check};
+    a->unread++;
+    if (k >= DIGIT_FIELDS) {
+        a->places[k - DIGIT_FIELDS] = (struct optes_place){.rate = 0, .amount = 0, .well_formed = 0};
+        return;
+    }
     *number[k] = 0;
     *flag[k] = 0;
+}
+
+// The message with a blank in digit field k of the six, or after them in the slash of place k - 6.
+static void damage(uint8_t *m, size_t k)
+{
+    size_t at = k < DIGIT_FIELDS ? numbers[k].start : rate_of(k - DIGIT_FIELDS)->start + 8;
+    m[at] = ' ';
+}
+
+// The message with zeros in digit field k of the six, or after them in place k - 6.
+static void put_zeros(uint8_t *m, size_t k)
+{
+    if (k < DIGIT_FIELDS)
+        memset(m + numbers[k].start, '0', numbers[k].digits);
+    else
+        memcpy(m + rate_of(k - DIGIT_FIELDS)->start, "00000000/000000000000000", 24);
+}
+
+// What was read of these bytes is not written, whether there is room or not, until unread is 0: then with zeros.
+static void not_written_unread(const struct buffers *b, const void *bytes, const void *zeros)
+{
+    const size_t space[] = {0, 338, 339, 340};
+    const uint8_t *m = guarded_copy(&b->message, bytes, MESSAGE_BYTES);
+    struct optes_application a;
+    CHECK(optes_application_read(&a, m, MESSAGE_BYTES) == 0);
+    for (size_t i = 0; i < sizeof space / sizeof space[0]; i++)
+        refused(b, &a, space[i], 17);
+    a.unread = 0;
+    written_as(b, &a, zeros);
+    refused(b, &a, 338, 18);
 }
 
 // A blank in each digit field in turn, and in each place: only that one has no numbers.
 static void without_numbers(const struct buffers *b)
 {
-    for (size_t k = 0; k < DIGIT_FIELDS; k++) {
+    for (size_t k = 0; k < DIGIT_FIELDS + PLACES; k++) {
         struct optes_application expected = valid();
-        uint8_t m[MESSAGE_BYTES];
+        uint8_t m[MESSAGE_BYTES], zeros[MESSAGE_BYTES];
         memcpy(m, message, MESSAGE_BYTES);
-        m[numbers[k].start] = ' ';
+        memcpy(zeros, message, MESSAGE_BYTES);
+        damage(m, k);
+        put_zeros(zeros, k);
         without_number(&expected, k);
         reads_as(b, m, &expected);
+        not_written_unread(b, m, zeros);
     }
-    for (size_t k = 0; k < PLACES; k++) {
-        struct optes_application expected = valid();
-        uint8_t m[MESSAGE_BYTES];
-        memcpy(m, message, MESSAGE_BYTES);
-        m[rate_of(k)->start + 8] = ' ';
-        expected.places[k] = (struct optes_place){.rate = 0, .amount = 0, .well_formed = 0};
+}
+
+// A blank in one digit field and place after the other, until none has a number.
+static void without_all_numbers(const struct buffers *b)
+{
+    struct optes_application expected = valid();
+    uint8_t m[MESSAGE_BYTES], zeros[MESSAGE_BYTES];
+    memcpy(m, message, MESSAGE_BYTES);
+    memcpy(zeros, message, MESSAGE_BYTES);
+    for (size_t k = 0; k < DIGIT_FIELDS + PLACES; k++) {
+        damage(m, k);
+        put_zeros(zeros, k);
+        without_number(&expected, k);
+        CHECK(expected.unread == k + 1);
         reads_as(b, m, &expected);
+        not_written_unread(b, m, zeros);
     }
 }
 
@@ -199,13 +247,15 @@ static void other_flags(const struct buffers *b)
     written_as(b, &a, message);
 }
 
-// A number too wide, a rate that 32 bits would cut to the first bid's, a malformed identifier: 17,
-// with room or without; an application that fits: 18 where there is no room.
+// A number too wide, a rate that 32 bits would cut to the first bid's, a malformed identifier, a number that was
+// not read: 17, with room or without; an application that fits: 18 where there is no room.
 static void refusals(const struct buffers *b)
 {
     const size_t space[] = {0, 338, 339, 340};
     for (size_t i = 0; i < sizeof space / sizeof space[0]; i++) {
         struct optes_application sender = valid(), rate = valid(), amount = valid(), identifier = valid();
+        struct optes_application unread = valid();
+        unread.unread = UINT32_MAX;
         sender.sender = 100000;
         rate.places[0].rate = 4294967296 + 150000;
         amount.places[9].amount = 1000000000000000;
@@ -214,6 +264,7 @@ static void refusals(const struct buffers *b)
         refused(b, &rate, space[i], 17);
         refused(b, &amount, space[i], 17);
         refused(b, &identifier, space[i], 17);
+        refused(b, &unread, space[i], 17);
     }
     struct optes_application a = valid();
     refused(b, &a, 0, 18);
@@ -228,6 +279,7 @@ void application_cases(const struct buffers *b)
     read_then_written(b);
     written_then_read(b);
     without_numbers(b);
+    without_all_numbers(b);
     no_date(b);
     unreadables(b);
     other_flags(b);

@@ -4,6 +4,8 @@
 #include <array>
 #include <cstdio>
 #include <cstring>
+#include <set>
+#include <string>
 
 namespace {
 
@@ -68,12 +70,43 @@ bool refusals()
     return refused && optes_application_write(&a, m.data(), m.size()) == OPTES_UNFIT && m == Message{};
 }
 
+// A message without digits for its sender and its first place is not written again before unread is 0.
+bool unread()
+{
+    optes_application a = application();
+    Message m{}, again{};
+    bool written = optes_application_write(&a, m.data(), m.size()) == OPTES_OK;
+    m[optes_6g1_start(m.data(), m.size(), OPTES_6G1_SENDER)] = ' ';
+    m[optes_6g1_start(m.data(), m.size(), OPTES_6G1_BIDS)] = ' ';
+    bool refused = written && optes_application_read(&a, m.data(), m.size()) == OPTES_OK && a.unread == 2
+        && optes_application_write(&a, again.data(), again.size()) == OPTES_UNFIT && again == Message{};
+    a.sender = 90003;
+    a.unread = 0;
+    return refused && optes_application_write(&a, again.data(), again.size()) == OPTES_OK
+        && optes_application_read(&a, again.data(), again.size()) == OPTES_OK && a.unread == 0
+        && a.sender == 90003;
+}
+
+// The numbers below 1,000 have as many different texts as there are refusals and errors, and one for the others.
+bool texts()
+{
+    std::set<std::string> refusals, errors;
+    for (uint64_t n = 0; n < 1000; n++) {
+        refusals.insert(optes_refusal_text(n));
+        errors.insert(optes_error_text(n));
+    }
+    const int number = OPTES_VERSION_NUMBER;
+    const std::string version = std::to_string(number / 10000) + '.' + std::to_string(number / 100 % 100) + '.'
+        + std::to_string(number % 100);
+    return refusals.size() == 21 && errors.size() == 20 && version == OPTES_VERSION;
+}
+
 } // namespace
 
 int main()
 {
-    if (!return_trip() || !refusals()) {
-        std::fputs("host_cpp: the application does not read back, or a refusal is missing\n", stderr);
+    if (!return_trip() || !refusals() || !unread() || !texts()) {
+        std::fputs("host_cpp: the application does not read back, or a refusal or a text is missing\n", stderr);
         return 1;
     }
     std::puts("host_cpp: the application reads back");

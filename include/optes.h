@@ -32,6 +32,7 @@
 
 // The sizes of a message and of its bids. The ten places of the bids are numbered from 0.
 #define OPTES_6G1_BYTES 339
+#define OPTES_6G1_DIGIT_FIELDS 6
 #define OPTES_6G1_PLACES 10
 #define OPTES_6G1_PLACE_BYTES 24
 #define OPTES_6G1_BIDS_BYTES 240
@@ -129,7 +130,7 @@ struct optes_place {
     uint32_t well_formed; // 1 if the two numbers were read. Where it is 0, they are 0.
 };
 
-// The numbers and texts of a 6G1.
+// The numbers and texts of a 6G1. To fill one by hand start from zeros, as {0} in C and {} in C++ give them.
 struct optes_application {
     uint64_t sender;
     uint64_t recipient;
@@ -147,9 +148,11 @@ struct optes_application {
     uint8_t type[OPTES_6G1_TYPE_BYTES];
     uint8_t identifier[OPTES_6G1_IDENTIFIER_BYTES];
     uint8_t name[OPTES_6G1_NAME_BYTES];
+    uint32_t unread; // How many of the six numbers and ten places above were not read.
 };
 
-// Reads the n bytes at m. Returns OPTES_OK, or OPTES_UNREADABLE and leaves the application as it was.
+// Reads the n bytes at m. Returns OPTES_OK, or OPTES_UNREADABLE and leaves the application as it was. A message
+// may lack a number: unread is then not 0, and whoever puts numbers of their own there sets it to 0.
 static inline uint32_t optes_application_read(struct optes_application *a, const uint8_t *m, size_t n)
 {
     uint64_t numbers[OPTES_6G1_NUMBERS];
@@ -168,23 +171,29 @@ static inline uint32_t optes_application_read(struct optes_application *a, const
     a->has_date = (uint32_t)numbers[OPTES_6G1_NUMBERS_DATE + 1];
     a->has_time = (uint32_t)numbers[OPTES_6G1_NUMBERS_TIME + 1];
     a->has_check = (uint32_t)numbers[OPTES_6G1_NUMBERS_CHECK + 1];
+    uint32_t found = a->has_sender + a->has_recipient + a->has_cro + a->has_date + a->has_time + a->has_check;
     for (uint32_t k = 0; k < OPTES_6G1_PLACES; k++) {
         const uint64_t *place = numbers + OPTES_6G1_NUMBERS_PLACES + OPTES_6G1_PLACE_NUMBERS * k;
         a->places[k].rate = place[0];
         a->places[k].amount = place[1];
         a->places[k].well_formed = (uint32_t)place[2];
+        found += a->places[k].well_formed;
     }
+    a->unread = OPTES_6G1_DIGIT_FIELDS + OPTES_6G1_PLACES - found;
     memcpy(a->type, m + numbers[OPTES_6G1_NUMBERS_TYPE], OPTES_6G1_TYPE_BYTES);
     memcpy(a->identifier, m + numbers[OPTES_6G1_NUMBERS_IDENTIFIER], OPTES_6G1_IDENTIFIER_BYTES);
     memcpy(a->name, m + numbers[OPTES_6G1_NUMBERS_NAME], OPTES_6G1_NAME_BYTES);
     return OPTES_OK;
 }
 
-// Writes the application to the n bytes of the space, as optes_6g1_write does. It does not look at
-// well_formed and the has_ flags: it writes the numbers that stand there.
+// Writes the application to the n bytes of the space, as optes_6g1_write does. While unread is not 0 it returns
+// OPTES_UNFIT before anything else, since zeros would stand for what the message did not have. It does not look
+// at well_formed and the has_ flags: it writes the numbers that stand there.
 static inline uint32_t optes_application_write(const struct optes_application *a, uint8_t *space, size_t n)
 {
     const struct optes_place *p = a->places;
+    if (a->unread != 0)
+        return OPTES_UNFIT;
     return optes_6g1_write(
         a->sender, a->recipient, a->cro, a->date, a->time, a->check,
         p[0].rate, p[1].rate, p[2].rate, p[3].rate, p[4].rate,

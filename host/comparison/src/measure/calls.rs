@@ -26,6 +26,7 @@ struct Application {
     kind: [u8; 3],
     identifier: [u8; 11],
     name: [u8; 15],
+    unread: u32,
 }
 
 #[derive(Default, PartialEq)]
@@ -54,6 +55,7 @@ impl Application {
         self.kind.copy_from_slice(&message[kind..][..3]);
         self.identifier.copy_from_slice(&message[identifier..][..11]);
         self.name.copy_from_slice(&message[name..][..15]);
+        self.count_unread();
         0
     }
 
@@ -77,7 +79,15 @@ impl Application {
         self.kind.copy_from_slice(&message[I::start(message, 0)..][..3]);
         self.identifier.copy_from_slice(&message[I::start(message, 7)..][..11]);
         self.name.copy_from_slice(&message[I::start(message, 9)..][..15]);
+        self.count_unread();
         0
+    }
+
+    /// Counts the digit fields and places that have no number.
+    fn count_unread(&mut self) {
+        let places = self.places.iter().map(|place| place.well_formed);
+        let found: u32 = self.has_number.iter().copied().chain(places).sum();
+        self.unread = (DIGIT_FIELDS.len() + PLACES) as u32 - found;
     }
 }
 
