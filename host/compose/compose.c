@@ -2,7 +2,7 @@
 // host/script/steps.h describes the steps.
 //
 // compose [SCRIPT] reads the script, or standard input, and writes the session to standard output. A
-// script that it cannot take gives an error with the number of the line, status 2 and no session.
+// script that it cannot take gives an error with its name and the number of the line, status 2 and no session.
 #include <errno.h>
 #include <stdio.h>
 #include <string.h>
@@ -30,15 +30,15 @@ static void add_step(const struct line *line, void *into)
 
 int main(int argc, char **argv)
 {
-    struct bytes script = {0};
     struct bytes session = {0};
     if (argc > 2)
         script_fail(argv[2], "compose takes one script");
-    script_read(&script, argc == 2 ? argv[1] : NULL);
+    struct script script = script_read(argc == 2 ? argv[1] : NULL);
     script_lines(&script, add_step, &session);
-    if (fwrite(session.at, 1, session.length, stdout) != session.length || fflush(stdout) != 0)
+    size_t written = session.length == 0 ? 0 : fwrite(session.at, 1, session.length, stdout);
+    if (written != session.length || fflush(stdout) != 0)
         script_fail("standard output", strerror(errno));
     bytes_free(&session);
-    bytes_free(&script);
+    bytes_free(&script.bytes);
     return 0;
 }

@@ -54,14 +54,30 @@ static bool holds_call(const struct step *step)
     }
 }
 
+// What the field of a tag holds where it makes a call.
+static const char *call_form(uint8_t tag)
+{
+    switch (tag) {
+    case TAG_ADMIT:
+        return "codes of five digits each";
+    case TAG_RECEIVE:
+        return "14 characters of date and time, then the message";
+    case TAG_CLOSE:
+        return "14 characters of date and time";
+    default:
+        return "nothing";
+    }
+}
+
 void expect_call(const struct line *line, const struct step *step)
 {
     if (step->raw)
-        refuse(line, "raw bytes make no call");
+        refuse(line, "raw bytes make no call: expected another step, or field with a tag from A0 to A5");
     if (step->tag < TAG_ADMIT || step->tag > TAG_ALLOT)
-        refuse_word(line, "tag", &line->words[1], "makes no call");
+        refuse(line, "tag '%02X' makes no call: expected a tag from A0 to A5", step->tag);
     if (!holds_call(step))
-        refuse(line, "the field does not hold what its call takes");
+        refuse(line, "field %02X with %zu byte%s makes no call: expected %s", step->tag, step->held.length,
+            step->held.length == 1 ? "" : "s", call_form(step->tag));
 }
 
 static void admit(struct rehearsal *r, const struct bytes *held)

@@ -3,7 +3,7 @@
 // steps.
 //
 // rehearse [SCRIPT] reads the script, or standard input. A script that it cannot take, or with a step that
-// makes no call, gives an error with the number of the line, status 2 and nothing else.
+// makes no call, gives an error with its name and the number of the line, status 2 and nothing else.
 #include <errno.h>
 #include <stdio.h>
 #include <stdlib.h>
@@ -83,14 +83,13 @@ static void play(struct scenes *scenes)
 
 int main(int argc, char **argv)
 {
-    struct bytes script = {0};
     struct scenes scenes = {0};
     if (argc > 2)
         script_fail(argv[2], "rehearse takes one script");
-    script_read(&script, argc == 2 ? argv[1] : NULL);
+    struct script script = script_read(argc == 2 ? argv[1] : NULL);
     script_lines(&script, add_scene, &scenes);
     play(&scenes);
-    bytes_free(&script);
+    bytes_free(&script.bytes);
     if (fflush(stdout) != 0 || ferror(stdout))
         script_fail("standard output", strerror(errno));
     return 0;

@@ -3,7 +3,6 @@
 #include <string.h>
 
 #include "keys.h"
-#include "values.h"
 
 #define ANNOUNCEMENT_BYTES 225
 
@@ -26,36 +25,43 @@ static const char worked[] =
 _Static_assert(sizeof worked == ANNOUNCEMENT_BYTES + 1, "the fields fill the announcement");
 
 static const struct key keys[] = {
-    {"sender", TAKES_DIGITS, 9, 5},
-    {"recipient", TAKES_DIGITS, 17, 5},
-    {"cro", TAKES_DIGITS, 25, 11},
-    {"date", TAKES_DIGITS, 39, 8},
-    {"time", TAKES_DIGITS, 50, 6},
-    {"identifier", TAKES_TEXT, 59, 11},
-    {"side", TAKES_SIDE, 79, 2},
-    {"execution", TAKES_DIGITS, 94, 8},
-    {"most", TAKES_DIGITS, 103, 2},
-    {"offered", TAKES_DIGITS, 106, 15},
-    {"minimum", TAKES_DIGITS, 122, 15},
-    {"increment", TAKES_DIGITS, 138, 15},
-    {"maximum", TAKES_DIGITS, 154, 15},
-    {"allocation", TAKES_DIGITS, 170, 15},
-    {"limit", TAKES_DIGITS, 186, 8},
-    {"spot", TAKES_DIGITS, 197, 8},
-    {"forward", TAKES_DIGITS, 208, 8},
-    {"cutoff", TAKES_DIGITS, 219, 6},
+    {{"sender", "a code", 5}, TAKES_DIGITS, 9},
+    {{"recipient", "a code", 5}, TAKES_DIGITS, 17},
+    {{"cro", "a number", 11}, TAKES_DIGITS, 25},
+    {{"date", "ddmmyyyy", 8}, TAKES_DIGITS, 39},
+    {{"time", "hhmmss", 6}, TAKES_DIGITS, 50},
+    {{"identifier", "T/yyyy/nnnn", 11}, TAKES_TEXT, 59},
+    {{"side", "LA or LP", 2}, TAKES_SIDE, 79},
+    {{"execution", "ddmmyyyy", 8}, TAKES_DIGITS, 94},
+    {{"most", "a number of bids", 2}, TAKES_DIGITS, 103},
+    {{"offered", "eurocents", 15}, TAKES_DIGITS, 106},
+    {{"minimum", "eurocents", 15}, TAKES_DIGITS, 122},
+    {{"increment", "eurocents", 15}, TAKES_DIGITS, 138},
+    {{"maximum", "eurocents", 15}, TAKES_DIGITS, 154},
+    {{"allocation", "eurocents", 15}, TAKES_DIGITS, 170},
+    {{"limit", "hundred-thousandths of a percent", 8}, TAKES_DIGITS, 186},
+    {{"spot", "ddmmyyyy", 8}, TAKES_DIGITS, 197},
+    {{"forward", "ddmmyyyy", 8}, TAKES_DIGITS, 208},
+    {{"cutoff", "hhmmss", 6}, TAKES_DIGITS, 219},
 };
 
-static void put(const struct line *line, const struct key *key, const struct word *value, void *into)
+// A text may stand in quotes, the side too.
+static bool is_side(const struct word *word)
+{
+    struct word plain = {word->text, word->length, false};
+    return word_is(&plain, "LA") || word_is(&plain, "LP");
+}
+
+static void put(const struct line *line, const struct key *key, const struct word *word, void *into)
 {
     uint8_t *place = (uint8_t *)into + key->start;
     if (key->takes == TAKES_DIGITS) {
-        put_digits(place, line, key->name, value, key->width);
+        put_digits(place, line, word, &key->value);
         return;
     }
-    if (key->takes == TAKES_SIDE && !word_is(value, "LA") && !word_is(value, "LP"))
-        refuse_word(line, key->name, value, "is neither LA nor LP");
-    put_text(place, line, key->name, value, key->width);
+    if (key->takes == TAKES_SIDE && !is_side(word))
+        refuse(line, "side '%s' is neither LA nor LP", shown(word).text);
+    put_text(place, line, word, &key->value);
 }
 
 void add_announcement(struct bytes *to, const struct line *line)

@@ -5,30 +5,36 @@
 
 #include "keys.h"
 #include "optes.h"
-#include "values.h"
 
 #define AT(member) offsetof(struct optes_application, member)
 
+static const char form[] = "apply DATE TIME CODE REFTIME RATE/AMOUNT .. KEY VALUE ..";
+
+static const struct value time_value = {"reference time", "REFTIME hhmmss", OPTES_6G1_TIME_DIGITS};
+static const struct value rate_value = {"rate", "RATE in hundred-thousandths of a percent",
+    OPTES_6G1_RATE_DIGITS};
+static const struct value amount_value = {"amount", "AMOUNT in eurocents", OPTES_6G1_AMOUNT_DIGITS};
+
 static const struct key keys[] = {
-    {"recipient", TAKES_DIGITS, AT(recipient), OPTES_6G1_RECIPIENT_DIGITS},
-    {"cro", TAKES_DIGITS, AT(cro), OPTES_6G1_CRO_DIGITS},
-    {"date", TAKES_DIGITS, AT(date), OPTES_6G1_DATE_DIGITS},
-    {"check", TAKES_DIGITS, AT(check), OPTES_6G1_CHECK_DIGITS},
-    {"type", TAKES_TEXT, AT(type), OPTES_6G1_TYPE_BYTES},
-    {"identifier", TAKES_TEXT, AT(identifier), OPTES_6G1_IDENTIFIER_BYTES},
-    {"name", TAKES_PADDED, AT(name), OPTES_6G1_NAME_BYTES},
+    {{"recipient", "a code", OPTES_6G1_RECIPIENT_DIGITS}, TAKES_DIGITS, AT(recipient)},
+    {{"cro", "a number", OPTES_6G1_CRO_DIGITS}, TAKES_DIGITS, AT(cro)},
+    {{"date", "ddmmyyyy", OPTES_6G1_DATE_DIGITS}, TAKES_DIGITS, AT(date)},
+    {{"check", "a number", OPTES_6G1_CHECK_DIGITS}, TAKES_DIGITS, AT(check)},
+    {{"type", "a type such as 6G1", OPTES_6G1_TYPE_BYTES}, TAKES_TEXT, AT(type)},
+    {{"identifier", "T/yyyy/nnnn", OPTES_6G1_IDENTIFIER_BYTES}, TAKES_TEXT, AT(identifier)},
+    {{"name", "a contact name", OPTES_6G1_NAME_BYTES}, TAKES_PADDED, AT(name)},
 };
 
-static void put(const struct line *line, const struct key *key, const struct word *value, void *into)
+static void put(const struct line *line, const struct key *key, const struct word *word, void *into)
 {
     uint8_t *place = (uint8_t *)into + key->start;
     if (key->takes == TAKES_DIGITS) {
-        uint64_t number = number_of(line, key->name, value, key->width);
+        uint64_t number = number_of(line, word, &key->value);
         memcpy(place, &number, sizeof number);
     } else if (key->takes == TAKES_PADDED) {
-        put_padded(place, line, key->name, value, key->width);
+        put_padded(place, line, word, &key->value);
     } else {
-        put_text(place, line, key->name, value, key->width);
+        put_text(place, line, word, &key->value);
     }
 }
 
@@ -46,13 +52,13 @@ static struct optes_place bid_of(const struct line *line, const struct word *wor
 {
     const char *slash = memchr(word->text, '/', word->length);
     if (slash == NULL || word->quoted)
-        refuse_word(line, "bid", word, "is not RATE/AMOUNT");
+        refuse(line, "bid '%s' is not RATE/AMOUNT, such as 150000/60000", shown(word).text);
     size_t left = (size_t)(slash - word->text);
     struct word rate = {word->text, left, false};
     struct word amount = {slash + 1, word->length - left - 1, false};
     return (struct optes_place){
-        .rate = number_of(line, "rate", &rate, OPTES_6G1_RATE_DIGITS),
-        .amount = number_of(line, "amount", &amount, OPTES_6G1_AMOUNT_DIGITS),
+        .rate = number_of(line, &rate, &rate_value),
+        .amount = number_of(line, &amount, &amount_value),
     };
 }
 
@@ -68,7 +74,8 @@ static size_t read_bids(struct optes_application *a, const struct line *line, si
     for (; i < line->count && !starts_key(&line->words[i]); i++) {
         struct optes_place bid = bid_of(line, &line->words[i]);
         if (i - from == OPTES_6G1_PLACES)
-            refuse(line, "an application has at most ten bids");
+            refuse(line, "bid '%s' is one too many: expected at most %d bids", shown(&line->words[i]).text,
+                OPTES_6G1_PLACES);
         a->places[i - from] = bid;
     }
     return i;
@@ -76,17 +83,17 @@ static size_t read_bids(struct optes_application *a, const struct line *line, si
 
 void add_application(struct bytes *to, const struct line *line)
 {
-    add_clock(to, line);
-    if (line->count < 5)
-        refuse(line, "a code and a reference time are needed");
+    add_clock(to, line, form);
+    expect_words(line, 5, form);
     struct optes_application a = worked();
-    a.sender = number_of(line, "code", &line->words[3], OPTES_6G1_SENDER_DIGITS);
-    a.time = number_of(line, "reference time", &line->words[4], OPTES_6G1_TIME_DIGITS);
+    a.sender = number_of(line, &line->words[3], &code_value);
+    a.time = number_of(line, &line->words[4], &time_value);
     size_t next = read_bids(&a, line, 5);
     put_keys(line, next, keys, sizeof keys / sizeof *keys, put, &a);
 
     uint8_t message[OPTES_6G1_BYTES];
+    struct word identifier = {(const char *)a.identifier, sizeof a.identifier, false};
     if (optes_application_write(&a, message, sizeof message) != OPTES_OK)
-        refuse(line, "the identifier is not T/yyyy/nnnn");
+        refuse(line, "identifier '%s' is not T/yyyy/nnnn", shown(&identifier).text);
     bytes_add(to, message, sizeof message);
 }

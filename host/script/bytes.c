@@ -43,6 +43,12 @@ void bytes_add_one(struct bytes *b, uint8_t byte)
     bytes_add(b, &byte, 1);
 }
 
+void bytes_add_name(struct bytes *names, const char *name)
+{
+    bytes_add(names, ", ", names->length == 0 ? 0 : 2);
+    bytes_add(names, name, strlen(name));
+}
+
 void bytes_free(struct bytes *b)
 {
     free(b->at);

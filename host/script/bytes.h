@@ -18,6 +18,9 @@ void bytes_add(struct bytes *b, const void *from, size_t n);
 // Adds one byte at the end.
 void bytes_add_one(struct bytes *b, uint8_t byte);
 
+// Adds a name to a list of them, after a comma where it is not the first.
+void bytes_add_name(struct bytes *names, const char *name);
+
 // Gives the memory back and leaves no bytes.
 void bytes_free(struct bytes *b);
 

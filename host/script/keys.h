@@ -5,21 +5,21 @@
 #include <stddef.h>
 
 #include "line.h"
+#include "values.h"
 
 // Digits of at most the width, a text of the width, a text with blanks after it up to the width, or
 // LA or LP.
 enum takes { TAKES_DIGITS, TAKES_TEXT, TAKES_PADDED, TAKES_SIDE };
 
-// A key, what it takes, where the value stands in what is written and how wide it is there.
+// A key by its value, whose name it has, what it takes, and where the value stands in what is written.
 struct key {
-    const char *name;
+    struct value value;
     enum takes takes;
     size_t start;
-    size_t width;
 };
 
 // Puts the value of a key into what is written.
-typedef void put_value(const struct line *line, const struct key *key, const struct word *value,
+typedef void put_value(const struct line *line, const struct key *key, const struct word *word,
     void *into);
 
 // Puts the value of each key from word from on; a key that is unknown, repeated or alone is refused.

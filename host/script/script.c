@@ -8,6 +8,7 @@
 #include "program.h"
 
 #define CHUNK 65536
+#define UTF8_MARK "\xef\xbb\xbf"
 
 void script_fail(const char *name, const char *wrong)
 {
@@ -15,36 +16,49 @@ void script_fail(const char *name, const char *wrong)
     exit(2);
 }
 
-static void read_file(struct bytes *script, FILE *file, const char *name)
+static void read_file(struct script *script, FILE *file)
 {
     static uint8_t chunk[CHUNK];
     size_t n = fread(chunk, 1, CHUNK, file);
     while (n > 0) {
-        bytes_add(script, chunk, n);
+        bytes_add(&script->bytes, chunk, n);
         n = fread(chunk, 1, CHUNK, file);
     }
     if (ferror(file))
-        script_fail(name, strerror(errno));
+        script_fail(script->name, strerror(errno));
 }
 
-void script_read(struct bytes *script, const char *name)
+struct script script_read(const char *name)
 {
-    if (name == NULL) {
-        read_file(script, stdin, "standard input");
-        return;
-    }
-    FILE *file = fopen(name, "rb");
+    struct script script = {.name = name == NULL ? "standard input" : name};
+    FILE *file = name == NULL ? stdin : fopen(name, "rb");
     if (file == NULL)
         script_fail(name, strerror(errno));
-    read_file(script, file, name);
-    fclose(file);
+    read_file(&script, file);
+    if (file != stdin)
+        fclose(file);
+    return script;
 }
 
-void script_lines(const struct bytes *script, take_line *take, void *into)
+static bool starts_with(const struct bytes *bytes, const char *mark)
 {
-    struct line line = {0};
-    const char *text = (const char *)script->at;
-    size_t left = script->length;
+    return bytes->length >= strlen(mark) && memcmp(bytes->at, mark, strlen(mark)) == 0;
+}
+
+// Where the text of the script starts.
+static size_t text_start(const struct script *script)
+{
+    if (starts_with(&script->bytes, "\xff\xfe") || starts_with(&script->bytes, "\xfe\xff"))
+        script_fail(script->name, "the script is in UTF-16: save it as UTF-8");
+    return starts_with(&script->bytes, UTF8_MARK) ? strlen(UTF8_MARK) : 0;
+}
+
+void script_lines(const struct script *script, take_line *take, void *into)
+{
+    struct line line = {.script = script->name};
+    size_t start = text_start(script);
+    const char *text = (const char *)script->bytes.at + start;
+    size_t left = script->bytes.length - start;
     while (left > 0) {
         const char *end = memchr(text, '\n', left);
         size_t length = end == NULL ? left : (size_t)(end - text);

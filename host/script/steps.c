@@ -11,29 +11,30 @@ static void hold_codes(struct bytes *held, const struct line *line)
 {
     for (size_t i = 1; i < line->count; i++) {
         uint8_t code[CODE_DIGITS];
-        put_digits(code, line, "code", &line->words[i], CODE_DIGITS);
+        put_digits(code, line, &line->words[i], &code_value);
         bytes_add(held, code, sizeof code);
     }
 }
 
 static void hold_message(struct bytes *held, const struct line *line)
 {
-    add_clock(held, line);
+    add_clock(held, line, "receive DATE TIME BYTES ..");
     add_raw(held, line, 3);
 }
 
 static void hold_clock(struct bytes *held, const struct line *line)
 {
-    add_clock(held, line);
-    if (line->count > 3)
-        refuse_word(line, "word", &line->words[3], "is one too many");
+    static const char form[] = "close DATE TIME";
+    add_clock(held, line, form);
+    expect_end(line, 3, form);
 }
 
 static void hold_nothing(struct bytes *held, const struct line *line)
 {
     (void)held;
     if (line->count > 1)
-        refuse_word(line, "word", &line->words[1], "is one too many");
+        refuse(line, "word '%s' is one too many: %s stands alone", shown(&line->words[1]).text,
+            shown(&line->words[0]).text);
 }
 
 // A step whose tag is fixed: its name, its tag and what its field holds.
@@ -57,8 +58,7 @@ static const struct named_step steps[] = {
 static struct step raw_step(const struct line *line)
 {
     struct step step = {.raw = true};
-    if (line->count < 2)
-        refuse(line, "raw has no bytes");
+    expect_words(line, 2, "raw BYTES ..");
     add_raw(&step.held, line, 1);
     return step;
 }
@@ -66,11 +66,21 @@ static struct step raw_step(const struct line *line)
 // The field of a line `field TAG BYTES ..`.
 static struct step any_field(const struct line *line)
 {
-    if (line->count < 2)
-        refuse(line, "field has no tag");
+    expect_words(line, 2, "field TAG BYTES ..");
     struct step step = {.tag = tag_of(line, &line->words[1])};
     add_raw(&step.held, line, 2);
     return step;
+}
+
+static _Noreturn void refuse_step(const struct line *line)
+{
+    struct bytes names = {0};
+    for (size_t k = 0; k < sizeof steps / sizeof *steps; k++)
+        bytes_add_name(&names, steps[k].name);
+    bytes_add_name(&names, "field");
+    bytes_add_name(&names, "raw");
+    refuse(line, "step '%s' is not known; steps are %.*s", shown(&line->words[0]).text, (int)names.length,
+        (const char *)names.at);
 }
 
 static struct step step_by_name(const struct line *line)
@@ -82,7 +92,7 @@ static struct step step_by_name(const struct line *line)
             return step;
         }
     }
-    refuse_word(line, "step", &line->words[0], "is not known");
+    refuse_step(line);
 }
 
 struct step step_of(const struct line *line)
@@ -91,6 +101,6 @@ struct step step_of(const struct line *line)
         return raw_step(line);
     struct step step = word_is(&line->words[0], "field") ? any_field(line) : step_by_name(line);
     if (step.held.length > FIELD_MOST)
-        refuse(line, "the field would hold more than 65535 bytes");
+        refuse(line, "the field would hold %zu bytes: expected at most %d", step.held.length, FIELD_MOST);
     return step;
 }

@@ -1,95 +1,119 @@
 #include "values.h"
 
+#include <stdio.h>
 #include <string.h>
 
-#define DATE_CHARACTERS 8
-#define TIME_CHARACTERS 6
+const struct value code_value = {"code", "CODE", 5};
 
-static void expect_digits(const struct line *line, const char *name,
-    const struct word *word, size_t width)
+static const struct value date_value = {"date", "DATE ddmmyyyy", 8};
+static const struct value time_value = {"time", "TIME hhmmss", 6};
+
+static _Noreturn void refuse_digits(const struct line *line, const struct word *word,
+    const struct value *value, const char *wrong)
 {
-    if (word->quoted || word->length == 0)
-        refuse_word(line, name, word, "is not digits");
-    for (size_t i = 0; i < word->length; i++)
-        if (word->text[i] < '0' || word->text[i] > '9')
-            refuse_word(line, name, word, "is not digits");
-    if (word->length > width)
-        refuse_word(line, name, word, "has more digits than its field");
+    refuse(line, "%s '%s' %s: expected %s, at most %zu digits", value->name, shown(word).text, wrong,
+        value->form, value->width);
 }
 
-uint64_t number_of(const struct line *line, const char *name,
-    const struct word *word, size_t width)
+// Whether the word has at least one character, and each of them is one of these.
+static bool is_made_of(const struct word *word, const char *characters)
 {
-    expect_digits(line, name, word, width);
+    for (size_t i = 0; i < word->length; i++)
+        if (word->text[i] == '\0' || strchr(characters, word->text[i]) == NULL)
+            return false;
+    return word->length > 0;
+}
+
+static void expect_digits(const struct line *line, const struct word *word, const struct value *value)
+{
+    char wrong[40];
+    if (word->quoted)
+        refuse_digits(line, word, value, "stands in quotes");
+    if (!is_made_of(word, "0123456789"))
+        refuse_digits(line, word, value, "is not digits");
+    snprintf(wrong, sizeof wrong, "has %zu digits", word->length);
+    if (word->length > value->width)
+        refuse_digits(line, word, value, wrong);
+}
+
+uint64_t number_of(const struct line *line, const struct word *word, const struct value *value)
+{
+    expect_digits(line, word, value);
     uint64_t number = 0;
     for (size_t i = 0; i < word->length; i++)
         number = number * 10 + (uint64_t)(word->text[i] - '0');
     return number;
 }
 
-void put_digits(uint8_t *place, const struct line *line, const char *name,
-    const struct word *word, size_t width)
+void put_digits(uint8_t *place, const struct line *line, const struct word *word,
+    const struct value *value)
 {
-    expect_digits(line, name, word, width);
-    memset(place, '0', width);
-    memcpy(place + (width - word->length), word->text, word->length);
+    expect_digits(line, word, value);
+    memset(place, '0', value->width);
+    memcpy(place + (value->width - word->length), word->text, word->length);
 }
 
-void put_text(uint8_t *place, const struct line *line, const char *name,
-    const struct word *word, size_t width)
+static _Noreturn void refuse_length(const struct line *line, const struct word *word,
+    const struct value *value, const char *most)
 {
-    if (word->length != width)
-        refuse_word(line, name, word, "is not as long as its field");
-    memcpy(place, word->text, width);
+    refuse(line, "%s '%s' has %zu character%s: expected %s, %s%zu characters", value->name, shown(word).text,
+        word->length, word->length == 1 ? "" : "s", value->form, most, value->width);
 }
 
-void put_padded(uint8_t *place, const struct line *line, const char *name,
-    const struct word *word, size_t width)
+void put_text(uint8_t *place, const struct line *line, const struct word *word,
+    const struct value *value)
 {
-    if (word->length > width)
-        refuse_word(line, name, word, "is longer than its field");
-    memset(place, ' ', width);
+    if (word->length != value->width)
+        refuse_length(line, word, value, "");
+    memcpy(place, word->text, value->width);
+}
+
+void put_padded(uint8_t *place, const struct line *line, const struct word *word,
+    const struct value *value)
+{
+    if (word->length > value->width)
+        refuse_length(line, word, value, "at most ");
+    memset(place, ' ', value->width);
     memcpy(place, word->text, word->length);
 }
 
-void add_clock(struct bytes *to, const struct line *line)
+void add_clock(struct bytes *to, const struct line *line, const char *form)
 {
-    uint8_t clock[DATE_CHARACTERS + TIME_CHARACTERS];
-    if (line->count < 3)
-        refuse(line, "a date and a time are needed");
-    if (line->words[1].length != DATE_CHARACTERS)
-        refuse_word(line, "date", &line->words[1], "does not have eight characters");
-    if (line->words[2].length != TIME_CHARACTERS)
-        refuse_word(line, "time", &line->words[2], "does not have six characters");
-    memcpy(clock, line->words[1].text, DATE_CHARACTERS);
-    memcpy(clock + DATE_CHARACTERS, line->words[2].text, TIME_CHARACTERS);
-    bytes_add(to, clock, sizeof clock);
+    uint8_t date[8], time[6];
+    expect_words(line, 3, form);
+    put_text(date, line, &line->words[1], &date_value);
+    put_text(time, line, &line->words[2], &time_value);
+    bytes_add(to, date, sizeof date);
+    bytes_add(to, time, sizeof time);
 }
 
-static uint8_t nibble(const struct line *line, const struct word *word, size_t index)
+static bool is_hexadecimal(const struct word *word)
 {
-    char c = word->text[index];
-    if (c >= '0' && c <= '9')
-        return (uint8_t)(c - '0');
-    if (c >= 'a' && c <= 'f')
+    return is_made_of(word, "0123456789abcdefABCDEF");
+}
+
+static uint8_t nibble(char c)
+{
+    if (c >= 'a')
         return (uint8_t)(c - 'a' + 10);
-    if (c >= 'A' && c <= 'F')
-        return (uint8_t)(c - 'A' + 10);
-    refuse_word(line, "bytes", word, "are not hexadecimal digits");
+    return (uint8_t)(c >= 'A' ? c - 'A' + 10 : c - '0');
 }
 
-static uint8_t byte_at(const struct line *line, const struct word *word, size_t index)
+static uint8_t byte_at(const char *text)
 {
-    uint8_t high = nibble(line, word, index);
-    return (uint8_t)(high << 4 | nibble(line, word, index + 1));
+    return (uint8_t)(nibble(text[0]) << 4 | nibble(text[1]));
 }
 
 static void add_hexadecimal(struct bytes *to, const struct line *line, const struct word *word)
 {
+    if (!is_hexadecimal(word))
+        refuse(line, "bytes '%s' are not hexadecimal digits: expected pairs of them, or a text in double quotes",
+            shown(word).text);
     if (word->length % 2 != 0)
-        refuse_word(line, "bytes", word, "are not pairs of hexadecimal digits");
+        refuse(line, "bytes '%s' are %zu hexadecimal digits: expected pairs of them", shown(word).text,
+            word->length);
     for (size_t i = 0; i < word->length; i += 2)
-        bytes_add_one(to, byte_at(line, word, i));
+        bytes_add_one(to, byte_at(word->text + i));
 }
 
 void add_raw(struct bytes *to, const struct line *line, size_t from)
@@ -105,7 +129,7 @@ void add_raw(struct bytes *to, const struct line *line, size_t from)
 
 uint8_t tag_of(const struct line *line, const struct word *word)
 {
-    if (word->quoted || word->length != 2)
-        refuse_word(line, "tag", word, "is not two hexadecimal digits");
-    return byte_at(line, word, 0);
+    if (word->quoted || word->length != 2 || !is_hexadecimal(word))
+        refuse(line, "tag '%s' is not two hexadecimal digits, such as A1", shown(word).text);
+    return byte_at(word->text);
 }
