@@ -23,6 +23,7 @@ static void constants(void)
     CHECK(OPTES_6G1_DATE_DIGITS == 8 && OPTES_6G1_TIME_DIGITS == 6 && OPTES_6G1_CHECK_DIGITS == 5);
     CHECK(OPTES_6G1_RATE_DIGITS == 8 && OPTES_6G1_AMOUNT_DIGITS == 15);
     CHECK(OPTES_6G1_NUMBERS == 45 && OPTES_6G1_PLACE_NUMBERS == 3);
+    CHECK(sizeof(struct optes_application) == 352 && sizeof(struct optes_place) == 24);
 }
 
 // One application written and read back, as a maker would.
