@@ -4,7 +4,6 @@
 #include "application.h"
 #include "values.h"
 
-#define CODE_DIGITS 5
 #define FIELD_MOST 65535
 
 static void hold_codes(struct bytes *held, const struct line *line)

@@ -3,10 +3,13 @@
 #include <stdio.h>
 #include <string.h>
 
-const struct value code_value = {"code", "CODE", 5};
+#define DATE_CHARACTERS 8
+#define TIME_CHARACTERS 6
 
-static const struct value date_value = {"date", "DATE ddmmyyyy", 8};
-static const struct value time_value = {"time", "TIME hhmmss", 6};
+const struct value code_value = {"code", "CODE", CODE_DIGITS};
+
+static const struct value date_value = {"date", "DATE ddmmyyyy", DATE_CHARACTERS};
+static const struct value time_value = {"time", "TIME hhmmss", TIME_CHARACTERS};
 
 static _Noreturn void refuse_digits(const struct line *line, const struct word *word,
     const struct value *value, const char *wrong)
@@ -79,7 +82,7 @@ void put_padded(uint8_t *place, const struct line *line, const struct word *word
 
 void add_clock(struct bytes *to, const struct line *line, const char *form)
 {
-    uint8_t date[8], time[6];
+    uint8_t date[DATE_CHARACTERS], time[TIME_CHARACTERS];
     expect_words(line, 3, form);
     put_text(date, line, &line->words[1], &date_value);
     put_text(time, line, &line->words[2], &time_value);

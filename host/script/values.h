@@ -16,6 +16,7 @@ struct value {
 };
 
 // The code of a counterparty.
+#define CODE_DIGITS 5
 extern const struct value code_value;
 
 // Every call below refuses the line where the word is not what the call reads.
