@@ -1,6 +1,6 @@
 -- Laws of fields in a message, at an index of it. Assumes nothing.
 use mathlib.Core.Path.{_≡_, refl, sym, ap, _∙_}
-use mathlib.Core.Bool.{Bool, true, false, cond, _&&_, _||_, and-false, or-self, or-false}
+use mathlib.Core.Bool.{Bool, true, false, cond, _&&_, _||_, and-true, and-false, or-self, or-false}
 use mathlib.Core.List.{List, [], _∷_}
 use Prim.Native.Nat.{ℕ, zero, suc, _+_, _*_, _-_, _≤_, _<_}
 use native.Mathlib.Nat.{add-zero, add-assoc, not-suc-le-zero, le-of-suc-le-suc}
@@ -63,9 +63,21 @@ first-byte m at = getD-drop at m 0 0 ∙ ap (λ (k : ℕ). getD m k 0) (add-zero
 pub other-at : (e : FieldEntry) (m : List ℕ) (at : ℕ) → (getD m at 0 ≡ e .tag → ⊥) → false ≡ starts e (drop at m)
 other-at e m at h = sym (starts-other e (drop at m) (λ t. h (sym (first-byte m at) ∙ t)))
 
-pub is-at : (tag short long : ℕ) (m : List ℕ) (at n : ℕ) → n ≡ lengthAt (drop at m) → 3 + n ≤ length m - at → getD m at 0 ≡ tag → (eqb n short || eqb n long) ≡ starts (entry tag short long) (drop at m)
-is-at tag short long m at n e h t =
-    sym (starts-is (entry tag short long) (drop at m) (rw (length-drop, ← e) h) (first-byte m at ∙ t) ∙ ap (oneOf (entry tag short long .lengths)) (sym e) ∙ one-of-entry tag short long n)
+-- by its length, where the tag is right
+module _ (tag short long : ℕ) (m : List ℕ) (at n : ℕ) (e : n ≡ lengthAt (drop at m)) (t : getD m at 0 ≡ tag) where
+  right-tag : eqb (getD (drop at m) 0 0) tag ≡ true
+  right-tag = eq-eqb (getD (drop at m) 0 0) tag (first-byte m at ∙ t)
+
+  its-length : oneOf (entry tag short long .lengths) (lengthAt (drop at m)) ≡ (eqb n short || eqb n long)
+  its-length = ap (oneOf (entry tag short long .lengths)) (sym e) ∙ one-of-entry tag short long n
+
+  pub is-at : (eqb n short || eqb n long) ≡ true → leb (3 + n) (length m - at) ≡ starts (entry tag short long) (drop at m)
+  unfolding starts
+  is-at h = rw (right-tag, its-length ∙ h, and-true, and-true, length-drop, ← e)
+
+  pub wrong-length : (eqb n short || eqb n long) ≡ false → false ≡ starts (entry tag short long) (drop at m)
+  unfolding starts
+  wrong-length h = rw (its-length ∙ h, and-false)
 
 pub fits-at : (e : FieldEntry) (m : List ℕ) (at : ℕ) → starts e (drop at m) ≡ true → 3 + lengthAt (drop at m) ≤ length m - at
 fits-at e m at h = rw length-drop at (starts-fits e (drop at m) h)

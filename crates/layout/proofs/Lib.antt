@@ -1,3 +1,4 @@
 pub mod Fields
 pub mod ReturnTrip
 pub mod Fixed
+pub mod Ends

@@ -16,11 +16,11 @@ use Rattle.layout.proofs.Fields.{starts-is, starts-fits, starts-tag, st
 
 -- what readable says of the first field and of the rest
 module _ (e : FieldEntry) (es : List FieldEntry) (m : List ℕ) (h : readable (e ∷ es) m ≡ true) where
-  first : starts e m ≡ true
+  pub first : starts e m ≡ true
   unfolding readable
   first = and-left (starts e m) (readable es (drop (3 + lengthAt m) m)) h
 
-  rest : readable es (drop (3 + lengthAt m) m) ≡ true
+  pub rest : readable es (drop (3 + lengthAt m) m) ≡ true
   unfolding readable
   rest = and-right (starts e m) (readable es (drop (3 + lengthAt m) m)) h
 
@@ -178,7 +178,7 @@ again t (a ∷ b ∷ c ∷ r) h s e =
     let q : (b * 256 + c) % 256 ≡ c = omega arith in
     rw (n, p, q, ← e, ← drop-drop (b * 256 + c) 3) (ap (λ (l : List ℕ). a ∷ b ∷ c ∷ l) (take-append-drop (b * 256 + c) r))
 
-nil : (m : List ℕ) → length m ≡ 0 → [] ≡ m
+pub nil : (m : List ℕ) → length m ≡ 0 → [] ≡ m
 nil [] h = refl
 nil (x ∷ xs) h = absurd (let z : ⊥ = omega arith in z)
 

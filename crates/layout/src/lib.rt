@@ -7,7 +7,8 @@ ghost use Prim.Native.Nat.{_≤_};
 ghost use lib.ListN.{length, drop};
 ghost use Rattle.layout.specs.Fields.{entry, layoutOf, starts, readable};
 
-// Whether a whole field with this tag and one of these lengths starts at an index of m.
+// Whether a whole field with this tag and one of these lengths starts at an index of m. The length is
+// compared first, so that the compiler knows whether the field is within m where it knows m's length.
 fn starts_at(m: &[u8], at: usize, tag: u8, short: u8, long: u8) -> bool
     requires { ⌜ at ≤ length (now m) ⌝ }
     ensures { λ r. ⌜ r ≡ starts (entry tag short long) (drop at (now (m .entry))) ⌝ }
@@ -15,14 +16,15 @@ fn starts_at(m: &[u8], at: usize, tag: u8, short: u8, long: u8) -> bool
     if m.len() - at < 3 {
         return false;
     }
-    let n = length_at(m, at);
-    if m.len() - at < 3 + n {
-        return false;
-    }
     if m[at] != tag {
         return false;
     }
-    n == short as usize || n == long as usize
+    let n = length_at(m, at);
+    if (n == short as usize) | (n == long as usize) {
+        3 + n <= m.len() - at
+    } else {
+        false
+    }
 }
 
 // Whether m is the fields of a layout, in order, and nothing more. The layout is three bytes for

@@ -2,9 +2,8 @@
 use borrow.Author.Needs.{needs}
 use native.Mathlib.Omega.{arith}
 use denote.Ref.{now}
-use borrow.Author.Tests.{eq-eqb, ne-eqb}
-use Rattle.layout.proofs.Fields.{short-at, other-at, is-at}
 use Rattle.layout.specs.Fields.{entry}
+use Rattle.layout.proofs.Fields.{short-at, other-at, is-at, wrong-length}
 use Rattle.layout.proofs.starts_at.Statement.{statement}
 use Rattle.layout.proofs.starts_at.Tie as tie
 
@@ -16,39 +15,34 @@ returns c =
     let a = c .before .before .args in
     short-at (entry (a .tag) (a .short) (a .long)) (now (a .m)) (a .at) (omega arith)
 
-length-at-requires : tie.Need-length-at-requires
-length-at-requires c κs = search needs
-
-sub-if2 : tie.Need-sub-if2
-sub-if2 c = search needs
-
-add-if2 : tie.Need-add-if2
-add-if2 c = search needs
+shared-slice-read-if2 : tie.Need-shared-slice-read-if2
+shared-slice-read-if2 c = search needs
 
 returns-2 : tie.Need-returns-2
 returns-2 c =
     let a = c .before .before .before .before .args in
-    short-at (entry (a .tag) (a .short) (a .long)) (now (a .m)) (a .at) (omega arith)
+    other-at (entry (a .tag) (a .short) (a .long)) (now (a .m)) (a .at) (c .if2 .taken)
 
-shared-slice-read-if3 : tie.Need-shared-slice-read-if3
-shared-slice-read-if3 c = search needs
+length-at-requires : tie.Need-length-at-requires
+length-at-requires c κs = search needs
+
+add-result : tie.Need-add-result
+add-result c = search needs
+
+sub-result : tie.Need-sub-result
+sub-result c = search needs
 
 returns-3 : tie.Need-returns-3
 returns-3 c =
     let a = c .before .before .before .before .before .before .args in
-    other-at (entry (a .tag) (a .short) (a .long)) (now (a .m)) (a .at) (c .if3 .taken)
+    let n = c .before .length-at in
+    is-at (a .tag) (a .short) (a .long) (now (a .m)) (a .at) (n .result) (n .ensures .0) (c .before .before .if2 .left) (c .if3 .taken)
 
 returns-4 : tie.Need-returns-4
 returns-4 c =
-    let a = c .before .before .before .before .before .before .before .args in
-    let n = c .before .before .before .before .length-at in
-    rw (eq-eqb (n .result) (a .short) (c .if4 .taken)) (rw (eq-eqb (n .result) (a .short) (c .if4 .taken)) at (is-at (a .tag) (a .short) (a .long) (now (a .m)) (a .at) (n .result) (n .ensures .0) (omega arith) (c .before .if3 .left)))
-
-returns-5 : tie.Need-returns-5
-returns-5 c =
-    let a = c .before .before .before .before .before .before .before .args in
-    let n = c .before .before .before .before .length-at in
-    rw (ne-eqb (n .result) (a .short) (c .if4 .left)) at (is-at (a .tag) (a .short) (a .long) (now (a .m)) (a .at) (n .result) (n .ensures .0) (omega arith) (c .before .if3 .left))
+    let a = c .before .before .before .before .before .before .args in
+    let n = c .before .length-at in
+    wrong-length (a .tag) (a .short) (a .long) (now (a .m)) (a .at) (n .result) (n .ensures .0) (c .before .before .if2 .left) (c .if3 .left)
 
 pub starts-at-spec : {M : Type 1} → statement M
 starts-at-spec =
@@ -56,11 +50,10 @@ starts-at-spec =
     (tie.spec
     sub-if1
     returns
-    length-at-requires
-    sub-if2
-    add-if2
+    shared-slice-read-if2
     returns-2
-    shared-slice-read-if3
+    length-at-requires
+    add-result
+    sub-result
     returns-3
-    returns-4
-    returns-5)
+    returns-4)
