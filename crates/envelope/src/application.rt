@@ -1,7 +1,5 @@
 // A 6G1, the application: read from bytes and written from numbers and texts.
-use crate::internal::bytes_in;
 use crate::internal::contents_if;
-use crate::internal::digits_in;
 use crate::internal::position_of;
 use digits::Digits;
 use digits::all_digits;
@@ -13,6 +11,8 @@ use places::Rate;
 use places::internal::put_places;
 use places::internal::read_places;
 use places::places_fit;
+use words::internal::long_number_at;
+use words::internal::number_at;
 use words::internal::put_digits;
 use words::internal::put_eight;
 ghost use mathlib.Core.Path.{_≡_};
@@ -99,18 +99,18 @@ pub fn bytes(m: &[u8], f: Field) -> &[u8]
     contents_if(is_6g1(m), m, position_of(f))
 }
 
-// The numbers of a readable 6G1.
+// The numbers of a readable 6G1, each read from where the layout puts its field.
 fn fields_of(m: &[u8]) -> Fields
     requires { ⌜ readable layout6G1 (now m) ≡ true ⌝ }
     ensures { λ r. ⌜ r ≡ fieldsOf (now (m .entry)) ⌝ }
 {
-    let sender = digits_in(m, Field::Sender);
-    let recipient = digits_in(m, Field::Recipient);
-    let cro = digits_in(m, Field::Cro);
-    let date = digits_in(m, Field::Date);
-    let time = digits_in(m, Field::Time);
-    let check = digits_in(m, Field::Check);
-    let places = read_places(bytes_in(m, Field::Bids));
+    let sender = number_at(m, 9, 14);
+    let recipient = number_at(m, 17, 22);
+    let cro = long_number_at(m, 25, 36);
+    let date = number_at(m, 39, 47);
+    let time = number_at(m, 50, 56);
+    let check = number_at(m, 59, 64);
+    let places = read_places(&m[81..321]);
     Fields {
         sender,
         recipient,

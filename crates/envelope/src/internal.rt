@@ -9,7 +9,7 @@ ghost use mathlib.Core.List.{[]};
 ghost use Prim.Native.Nat.{_≤_};
 ghost use lib.ListN.{length};
 ghost use Rattle.digits.specs.Decimal.{digitsOf};
-ghost use Rattle.layout.specs.Fields.{IsOneOf, atMost, readable, content, whole};
+ghost use Rattle.layout.specs.Fields.{IsOneOf, readable, content, whole};
 ghost use Rattle.envelope.specs.Application.{entryOf, layout6G1, position, bytesOf};
 
 // The number in field k, counted from 0.
@@ -53,13 +53,4 @@ pub fn bytes_in(m: &[u8], f: Field) -> &[u8]
     ensures { λ r. ⌜ (now r ≡ bytesOf f (now (m .entry))) × IsOneOf (entryOf f .lengths) (length (now r)) ⌝ }
 {
     contents(m, position_of(f))
-}
-
-// What a digit field of a readable 6G1 holds.
-pub fn digits_in(m: &[u8], f: Field) -> Digits
-    requires { ⌜ readable layout6G1 (now m) ≡ true ⌝ }
-    requires { ⌜ atMost 19 (entryOf f .lengths) ≡ true ⌝ }
-    ensures { λ r. ⌜ r ≡ digitsOf (bytesOf f (now (m .entry))) ⌝ }
-{
-    number(bytes_in(m, f))
 }

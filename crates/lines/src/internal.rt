@@ -1,7 +1,5 @@
 // Lines written into a lent space from its start. Of a reception s begins with its date and time, and m is its message.
 use digits::internal::put_digits;
-use envelope::application::Field;
-use envelope::internal::bytes_in;
 use errors::Errors;
 use output::internal::put;
 use output::internal::put_byte;
@@ -36,8 +34,7 @@ fn sender_in(m: &[u8]) -> &[u8]
     requires { ⌜ readable layout6G1 (now m) ≡ true ⌝ }
     ensures { λ r. ⌜ (now r ≡ senderOf (now (m .entry))) × (length (now r) ≡ 5) ⌝ }
 {
-    let sender = bytes_in(m, Field::Sender);
-    &sender[0..5]
+    &m[9..14]
 }
 
 // Writes a blank and those bytes.

@@ -11,8 +11,8 @@ use Rattle.rules.specs.Opening.{rising}
 use Rattle.book.specs.Viewed.{viewed, codesIn}
 use Rattle.buffer.specs.Words.{bookIn}
 use Rattle.buffer.proofs.Words.{Known, known, codes-are, codes-rise}
-use Rattle.buffer_search.specs.Halving.{findIn}
-use Rattle.buffer_search.proofs.Halving.{find-codes}
+use Rattle.buffer_search.specs.Search.{findIn}
+use Rattle.buffer_search.proofs.Search.{find-codes}
 use Rattle.buffer_search.proofs.internal.find.Statement.{statement}
 use Rattle.buffer_search.proofs.internal.find.Tie as tie
 

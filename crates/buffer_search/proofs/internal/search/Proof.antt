@@ -1,7 +1,7 @@
 -- `buffer_search::internal::search` meets its contract. Assumes nothing.
 use borrow.Author.Needs.{needs}
 use denote.Ref.{now}
-use Rattle.buffer_search.proofs.Halving.{search-found, search-past, search-other}
+use Rattle.buffer_search.proofs.Search.{search-found, search-past, search-other}
 use Rattle.buffer_search.proofs.internal.search.Statement.{statement}
 use Rattle.buffer_search.proofs.internal.search.Tie as tie
 

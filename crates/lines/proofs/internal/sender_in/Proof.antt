@@ -1,12 +1,14 @@
 -- `lines::internal::sender_in` meets its contract. Assumes nothing.
 use borrow.Author.Needs.{needs}
-use mathlib.Core.Path.{ap}
-use lib.ListN.{take}
+use mathlib.Core.Path.{sym, ap, _∙_}
+use native.Mathlib.Omega.{arith}
+use denote.Ref.{now}
+use lib.ListN.{length, take, drop}
+use lib.Seq.{take-take}
+use Rattle.envelope.specs.declared.application.Field.the-variants.{Sender}
+use Rattle.envelope.proofs.Promise.{message-length, length-field, field-part}
 use Rattle.lines.proofs.internal.sender_in.Statement.{statement}
 use Rattle.lines.proofs.internal.sender_in.Tie as tie
-
-bytes-in-requires : tie.Need-bytes-in-requires
-bytes-in-requires c κs = search needs
 
 sub-result : tie.Need-sub-result
 sub-result c = search needs
@@ -15,11 +17,15 @@ part-result-start : tie.Need-part-result-start
 part-result-start c = search needs
 
 part-result-end : tie.Need-part-result-end
-part-result-end c = search needs
+part-result-end c = search (needs, message-length (now (c .args .m)) (c .pre))
 
 returns : tie.Need-returns
-returns c = (ap (take 5) (c .before .bytes-in .ensures .0), search needs)
+returns c =
+    let m = now (c .before .args .m) in
+    let h = c .before .pre in
+    let sender = field-part m h Sender in
+    (sym (take-take 5 5 (drop 9 m) (omega arith)) ∙ ap (take 5) sender, ap length sender ∙ length-field m h Sender)
 
 pub sender-in-spec : {M : Type 1} → statement M
 sender-in-spec =
-    tie.close (tie.spec bytes-in-requires sub-result part-result-start part-result-end returns)
+    tie.close (tie.spec sub-result part-result-start part-result-end returns)

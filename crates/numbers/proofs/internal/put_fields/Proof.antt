@@ -1,19 +1,19 @@
 -- `numbers::internal::put_fields` meets its contract. Assumes nothing.
 use borrow.Author.Needs.{needs}
-use mathlib.Core.Path.{ap, _∙_}
-use Prim.Native.Nat.{_≤_}
+use mathlib.Core.Path.{_≡_, ap, _∙_}
 use denote.Ref.{now}
 use lib.ListN.{length}
 use Rattle.output.proofs.Output.{said}
+use Rattle.envelope.proofs.Promise.{message-length}
 use Rattle.numbers.specs.Numbers.{digitNumbers, fieldsNumbers}
-use Rattle.numbers.proofs.Parts.{all-bytes, sender-part, recipient-part, cro-part, date-part, time-part, check-part}
+use Rattle.numbers.proofs.Parts.{sender-part, recipient-part, cro-part, date-part, time-part, check-part}
 use Rattle.numbers.proofs.Arrays.{and-then}
 use Rattle.numbers.proofs.internal.put_fields.Statement.{statement}
 use Rattle.numbers.proofs.internal.put_fields.Tie as tie
 
 -- the message has all its bytes
-there : (c : tie.Start) → 339 ≤ length (now (c .args .m))
-there c = all-bytes (now (c .args .m)) (c .pre .0)
+there : (c : tie.Start) → length (now (c .args .m)) ≡ 339
+there c = message-length (now (c .args .m)) (c .pre .0)
 
 number-at-requires : tie.Need-number-at-requires
 number-at-requires c κs = search (needs, there (c .before .before .before))

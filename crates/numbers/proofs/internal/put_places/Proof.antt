@@ -8,8 +8,9 @@ use lib.ListN.{length, take, drop}
 use Rattle.output.specs.Output.{Wrote}
 use Rattle.output.proofs.Output.{then, said, nothing}
 use Rattle.places.specs.Bids.{placeOf}
+use Rattle.envelope.proofs.Promise.{message-length}
 use Rattle.numbers.specs.Numbers.{placeNumbers, placesNumbers}
-use Rattle.numbers.proofs.Parts.{all-bytes, place-part, places-more}
+use Rattle.numbers.proofs.Parts.{place-part, places-more}
 use Rattle.numbers.proofs.internal.put_places.Statement.{statement}
 use Rattle.numbers.proofs.internal.put_places.Tie as tie
 
@@ -40,7 +41,7 @@ part-read-place-start : tie.Need-part-read-place-start Inv-loop μ-loop
 part-read-place-start c = omega arith
 
 part-read-place-end : tie.Need-part-read-place-end Inv-loop μ-loop
-part-read-place-end c = omega (arith, all-bytes (now (c .before .before .before .before .before .args .m)) (c .before .before .before .before .before .pre .0))
+part-read-place-end c = omega (arith, message-length (now (c .before .before .before .before .before .args .m)) (c .before .before .before .before .before .pre .0))
 
 read-place-requires : tie.Need-read-place-requires Inv-loop μ-loop
 read-place-requires c κs = search needs

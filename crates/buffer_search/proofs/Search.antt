@@ -1,20 +1,20 @@
--- A search by halving among codes that rise. Assumes nothing.
+-- Laws of a search among codes that rise. Assumes nothing.
 use mathlib.Core.Path.{_≡_, refl, sym, ap, _∙_}
 use mathlib.Core.Logic.{_≢_}
-use mathlib.Core.Bool.{Bool, true, false, cond}
+use mathlib.Core.Bool.{Bool, true, false, cond, _&&_}
 use mathlib.Core.List.{List, [], _∷_}
 use Prim.Native.Nat.{ℕ, zero, suc, _+_, _≤_, _<_}
 use native.Mathlib.Nat.{add-zero, zero-add}
 use native.Mathlib.Omega.{arith}
 use lib.Dec.{eqb, ltb}
 use lib.ListN.{length, getD}
-use borrow.Author.Tests.{ltb-true, ltb-false, eq-eqb, ne-eqb}
+use borrow.Author.Tests.{lt-ltb, ltb-true, ltb-false, eq-eqb, ne-eqb}
 use Rattle.laws.proofs.Tests.{and-left, and-right}
 use Rattle.rules.specs.Opening.{rising}
 use Rattle.rules.specs.Receiving.{Entry}
 use Rattle.book.specs.declared.Found.the-variants.{At, Absent}
 use Rattle.book.specs.Viewed.{findFrom, codesIn}
-use Rattle.buffer_search.specs.Halving.{findIn, Between}
+use Rattle.buffer_search.specs.Search.{findIn, isBelow, AllBelow, AsManyBelow}
 
 -- codes after the first are above it
 first-below : (c : ℕ) (l : List ℕ) → rising (c ∷ l) ≡ true → (j : ℕ) → j < length l → c < getD l j 0
@@ -48,30 +48,31 @@ later-least l r i j h k = go (ltb i j) refl
         let same : i ≡ j = omega (arith, ltb-false i j e) in
         rw same (omega arith)
 
-module _ (l : List ℕ) (r : rising l ≡ true) (c low high middle : ℕ) (b : Between l c low high) (from : low ≤ middle) (to : middle < high) where
-  -- the code in the middle is below: it stands past it
-  pub upper-half : getD l middle 0 < c → Between l c (middle + 1) high
-  upper-half h =
+-- none to begin with
+pub none-passed : (l : List ℕ) (c : ℕ) → AllBelow l 0 c
+none-passed l c = record { inside = omega arith; before = λ i k. absurd (omega arith) }
+
+module _ (l : List ℕ) (r : rising l ≡ true) (c : ℕ) where
+  -- the one at an index is below, so all up to it are
+  pub passed : (at next : ℕ) → suc at ≡ next → isBelow l at c ≡ true → AllBelow l next c
+  passed at next e h =
+      let there = ltb-true at (length l) (and-left (ltb at (length l)) (ltb (getD l at 0) c) h) in
+      let less = ltb-true (getD l at 0) c (and-right (ltb at (length l)) (ltb (getD l at 0) c) h) in
       record {
-        ordered = omega arith;
-        inside = b .inside;
-        before = λ i k. let least = later-least l r i middle (omega arith) (omega (arith, b .inside)) in omega (arith, least, h);
-        past = b .past;
+        inside = omega (arith, e, there);
+        before = λ i k. let least = later-least l r i at (omega (arith, e)) there in omega (arith, least, less);
       }
 
-  -- it is not: it stands there or before it
-  pub lower-half : c ≤ getD l middle 0 → Between l c low middle
-  lower-half h =
+  -- it is not, so none from it on is
+  pub not-passed : (at : ℕ) → AllBelow l at c → isBelow l at c ≡ false → AsManyBelow l at c
+  not-passed at b h =
       record {
-        ordered = from;
-        inside = omega (arith, b .inside);
-        before = b .before;
-        past = λ i k n. let least = later-least l r middle i k n in omega (arith, least, h);
+        first = b;
+        past = λ i k n. let least = later-least l r at i k n in omega (arith, least, at-least (omega (arith, k, n)));
       }
-
--- the whole list to begin with
-pub whole : (l : List ℕ) (c : ℕ) → Between l c 0 (length l)
-whole l c = record { ordered = omega arith; inside = omega arith; before = λ i k. absurd (omega arith); past = λ i k n. absurd (omega arith) }
+    where
+      at-least : at < length l → c ≤ getD l at 0
+      at-least there = ltb-false (getD l at 0) c (sym (ap (λ (t : Bool). t && ltb (getD l at 0) c) (lt-ltb at (length l) there)) ∙ h)
 
 -- a code that stands at an index, those before it being others
 found-at : (l : List ℕ) (c at i : ℕ) → at < length l → ((k : ℕ) → k < at → getD l k 0 ≢ c) → getD l at 0 ≡ c → findIn l c i ≡ At (i + at)
@@ -88,18 +89,18 @@ unfolding findIn
 nowhere [] c i others = refl
 nowhere (d ∷ l) c i others = rw (ne-eqb d c (others 0 (omega arith))) (nowhere l c (suc i) (λ k q. others (suc k) (omega arith)))
 
-module _ (l : List ℕ) (r : rising l ≡ true) (c at : ℕ) (b : Between l c at at) where
+module _ (l : List ℕ) (r : rising l ≡ true) (c at : ℕ) (b : AsManyBelow l at c) where
   pub search-found : at < length l → getD l at 0 ≡ c → At at ≡ findIn l c 0
-  search-found h e = ap At (sym (zero-add at)) ∙ sym (found-at l c at 0 h (λ k q same. let less = b .before k q in omega (arith, less, same)) e)
+  search-found h e = ap At (sym (zero-add at)) ∙ sym (found-at l c at 0 h (λ k q same. let less = b .first .before k q in omega (arith, less, same)) e)
 
   pub search-past : length l ≤ at → Absent ≡ findIn l c 0
-  search-past h = sym (nowhere l c 0 (λ k q same. let less = b .before k (omega arith) in omega (arith, less, same)))
+  search-past h = sym (nowhere l c 0 (λ k q same. let less = b .first .before k (omega arith) in omega (arith, less, same)))
 
   pub search-other : at < length l → getD l at 0 ≢ c → Absent ≡ findIn l c 0
   search-other h other = sym (nowhere l c 0 (λ k q same. go k q same (ltb k at) refl (ltb at k) refl))
     where
       go : (k : ℕ) → k < length l → getD l k 0 ≡ c → (s : Bool) → ltb k at ≡ s → (t : Bool) → ltb at k ≡ t → ⊥
-      go k q same true e t f = let less = b .before k (ltb-true k at e) in omega (arith, less, same)
+      go k q same true e t f = let less = b .first .before k (ltb-true k at e) in omega (arith, less, same)
       go k q same false e true f =
           let least = b .past at (omega arith) h in
           let less = later-above l r at k (ltb-true at k f) q in
