@@ -76,7 +76,7 @@ fn put_why(space: &mut [u8], at: usize, left: &[u8]) -> usize
 // Writes the line for an offset in the session and what is left from there on.
 pub fn put_ending(space: &mut [u8], at: u64, left: &[u8]) -> usize
     requires { ⌜ 128 ≤ length (now space) ⌝ }
-    ensures { λ r. ⌜ Wrote (now (space .entry)) 0 (endingText at (now (left .entry))) (now (space .exit)) r ⌝ }
+    ensures { λ r. ⌜ Wrote (now (space .entry)) 0 (endingText at (now (left .entry))) (now (space .exit)) r × (r ≤ 128) ⌝ }
 {
     let number = put(space, 0, b"session_log: ended at byte ");
     let colon = put_decimal(space, number, at);

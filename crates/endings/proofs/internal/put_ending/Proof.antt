@@ -1,6 +1,7 @@
 -- `endings::internal::put_ending` meets its contract. Assumes nothing.
 use borrow.Author.Needs.{needs}
 use Prim.Native.Nat.{zero-le}
+use native.Mathlib.Omega.{arith}
 use Rattle.output.proofs.Output.{then}
 use Rattle.endings.specs.Endings.{endingText}
 use Rattle.endings.proofs.internal.put_ending.Statement.{statement}
@@ -38,7 +39,7 @@ returns c =
     let colon = c .before .before .before .before .before .before .before .before .before .before .put2 in
     let why = c .before .before .before .before .before .before .put-why in
     let end = c .before .before .put-byte in
-    then zero-le (then zero-le (then zero-le (then zero-le (start .ensures) (number .ensures .0)) (colon .ensures)) (why .ensures .0)) (end .ensures)
+    (then zero-le (then zero-le (then zero-le (then zero-le (start .ensures) (number .ensures .0)) (colon .ensures)) (why .ensures .0)) (end .ensures), omega (arith, start .ensures .past, number .ensures .1, colon .ensures .past, why .ensures .1, end .ensures .past))
 
 pub put-ending-spec : {M : Type 1} → statement M
 put-ending-spec =
