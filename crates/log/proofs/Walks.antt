@@ -30,7 +30,7 @@ module _ (s : List ℕ) where
   unfolding holdsField
   with-head h = rw (le-leb 3 (length s) h)
 
-  after-shorter : holdsField s ≡ true → length (afterField s) + 3 ≤ length s
+  pub after-shorter : holdsField s ≡ true → length (afterField s) + 3 ≤ length s
   after-shorter h = let w = held-whole h in simp length-drop (omega arith)
 
 -- a byte string has no more fields than bytes: counting further changes nothing
@@ -63,13 +63,13 @@ log-next l s h e =
 
 -- bytes that hold a field hold it whatever follows
 module _ (s rest : List ℕ) (h : holdsField s ≡ true) where
-  tag-before : tagOf (s ++ rest) ≡ tagOf s
+  pub tag-before : tagOf (s ++ rest) ≡ tagOf s
   tag-before = let w = held-head s h in List·getD-append s rest 0 0 (omega arith)
 
   length-before : lengthAt (s ++ rest) ≡ lengthAt s
   length-before = let w = held-head s h in ap₂ (λ (x y : ℕ). x * 256 + y) (List·getD-append s rest 0 1 (omega arith)) (List·getD-append s rest 0 2 (omega arith))
 
-  content-before : contentOf (s ++ rest) ≡ contentOf s
+  pub content-before : contentOf (s ++ rest) ≡ contentOf s
   content-before =
       let w = held-head s h in
       let v = held-whole s h in

@@ -2,22 +2,26 @@
 use mathlib.Core.Path.{_≡_, refl, sym, ap, ap₂, subst, subst₂, _∙_}
 use mathlib.Core.Bool.{Bool, true, false, not, _&&_, and-true}
 use mathlib.Core.List.{List, [], _∷_, _++_, append-assoc, append-nil}
-use Prim.Native.Nat.{ℕ, zero, suc, _+_, _-_, _≤_}
+use Prim.Native.Nat.{ℕ, zero, suc, _+_, _-_, _≤_, zero-le}
 use native.Mathlib.Nat.{min-le-right, sub-zero, zero-sub, suc-sub-suc}
 use native.Mathlib.Omega.{arith}
-use borrow.Author.Tests.{le-leb, eqb-true}
+use borrow.Author.Tests.{le-leb, le-ltb, eqb-true}
 use lib.Dec.{leb, eqb}
 use lib.ListN.{length, take, drop, take-append-drop, length-take, length-drop}
-use lib.Seq.{drop-drop, take-take, take-nil, take-at, length-take-le}
+use lib.Seq.{drop-drop, take-take, take-nil, take-all, take-at, length-take-le}
+use lib.IntN.{ℤ, pos, negsuc}
+use lib.Signed.{ltZ}
+use Rattle.output.specs.Output.{Wrote}
 use Rattle.log.specs.Steps.{Log, holdsField, logFrom}
 use Rattle.steps.specs.declared.Standing.{Standing}
 use Rattle.steps.specs.Viewed.{viewed, Given}
 use Rattle.journal.specs.Runs.{Runs, LogsIn, RunsAll, no-more, and-next}
 use Rattle.journal.specs.declared.internal.Ran.{Ran}
 use Rattle.journal.proofs.Whole.{written-first, log-of-runs}
+use Rattle.endings.specs.Endings.{leftOf, endingText}
 use Rattle.session_log.specs.declared.Turn.{Turn}
 use Rattle.session_log.specs.Turns as turns
-use Rattle.session_log.specs.Turns.{waiting, Within, Journal, Lines, TakesFields, ReadsMore, Turned, TurnsAll, LogOfTurns}
+use Rattle.session_log.specs.Turns.{waiting, handed, Within, Journal, Lines, TakesFields, counted, isNegative, ReadsMore, Turned, TurnsAll, LogOfTurns, endingOf}
 
 -- what is left of a part of the buffer is a part of the buffer
 drop-take : (u n : ℕ) (l : List ℕ) → drop u (take n l) ≡ take (n - u) (drop u l)
@@ -60,7 +64,7 @@ used-within w used =
 
 -- the turn after a run over all that waited
 abbrev pub turnOf : Turn → Ran → Bool → Turn
-turnOf t ran more = record { more = more; reads = eqb (ran .length) 0; from = t .from + ran .used; to = t .to; length = ran .length; standing = ran .standing }
+turnOf t ran more = record { more = more; reads = eqb (ran .length) 0; failed = false; before = t .before; last = t .from; from = t .from + ran .used; to = t .to; length = ran .length; standing = ran .standing }
 
 pub taken-by : (t : Turn) (codes words input space : List ℕ) (ran : Ran) (codes₂ words₂ after : List ℕ) (more : Bool)
     → Within t input → 23040 ≤ length space → LogsIn (viewed (t .standing) codes words) (waiting t input) space ran codes₂ words₂ after
@@ -70,26 +74,31 @@ taken-by t codes words input space ran codes₂ words₂ after more w room k =
     record {
       runs = subst (λ (x : List ℕ). Runs (viewed (t .standing) codes words) (waiting t input) space (viewed (ran .standing) codes₂ words₂) x after (ran .length)) left (k .runs);
       room = k .room;
-      within = record { ordered = used-within w (k .within); inside = w .inside };
+      within = record { begun = omega arith; ordered = used-within w (k .within); inside = w .inside };
       journal = record { given = k .given; codes-length = k .codes-length; words-length = k .words-length };
       all = λ h.
           none-whole (holdsField (waiting (turnOf t ran more) input)) (not (ran .standing .ended)) (length space) (ran .length)
           (subst (λ (x : List ℕ). (holdsField x && not (ran .standing .ended) && leb 23040 (length space - ran .length)) ≡ false) left (k .all))
           room
           (eqb-true (ran .length) 0 h);
+      before-kept = refl;
+      began = refl;
+      handed-all = refl;
     }
 
 -- the turn after a read behind what waited, which was moved to the start of the buffer
-pub read-behind : (t : Turn) (input moved after : List ℕ) (n : ℕ) (more : Bool) → Within t input → moved ≡ waiting t input ++ drop (t .to - t .from) input → take (t .to - t .from) after ≡ take (t .to - t .from) moved → t .to - t .from + n ≤ length after → ReadsMore t input (record { more = more; reads = false; from = 0; to = t .to - t .from + n; length = 0; standing = t .standing }) after
-read-behind t input moved after n more w e p inside =
+pub read-behind : (t : Turn) (input moved after : List ℕ) (n : ℕ) (more failed : Bool) (before : ℕ) → before ≡ counted (t .before) (t .from) → Within t input → moved ≡ waiting t input ++ drop (t .to - t .from) input → take (t .to - t .from) after ≡ take (t .to - t .from) moved → t .to - t .from + n ≤ length after → ReadsMore t input (record { more = more; reads = false; failed = failed; before = before; last = 0; from = 0; to = t .to - t .from + n; length = 0; standing = t .standing }) after
+read-behind t input moved after n more failed before b w e p inside =
     let left = t .to - t .from in
     let l = waiting-length w in
     let first : take left after ≡ waiting t input = p ∙ ap (take left) e ∙ take-at (waiting t input) (drop left input) left l in
     record {
       kept = kept-first (waiting t input) after left n l first;
       standing-kept = refl;
-      within = record { ordered = omega arith; inside = inside };
+      within = record { begun = omega arith; ordered = omega arith; inside = inside };
       takes-next = refl;
+      before-counted = b;
+      from-start = (refl, refl);
     }
 
 -- bytes counted in the rest of the buffer end within it
@@ -140,3 +149,26 @@ runs-of (turns.and-takes {read = read} k more) = and-next read (k .runs) (runs-o
 pub log-of-turns : LogOfTurns
 log-of-turns t codes words input read text j none k =
     log-of-runs read text (subst₂ (λ (l : Log) (s : List ℕ). RunsAll l s text) j (ap (λ (s : List ℕ). s ++ read) none) (runs-of k))
+
+-- a call that failed answers a number below zero
+pub below : (z : ℤ) → ltZ z (pos 0) ≡ isNegative z
+below (pos n) = le-ltb n 0 zero-le
+below (negsuc n) = refl
+
+-- the line of an ending is the first bytes of the space that it was written into
+pub ending-written : (t : Turn) (input : List ℕ) (at once twice n : ℕ) (line space : List ℕ)
+    → (drop at (handed t input) ≡ leftOf (handed t input)) × (at ≤ length (handed t input))
+    → once ≡ counted (t .before) (t .last)
+    → twice ≡ counted once at
+    → Wrote space 0 (endingText twice (take (length (handed t input) - at) (drop at (handed t input)))) line n
+    → take (n - 0) (drop 0 line) ≡ endingOf t input
+ending-written t input at once twice n line space l e f w =
+    let s = handed t input in
+    let d = length-drop at s in
+    let k = ap length (l .0) in
+    let within = l .1 in
+    let rest : take (length s - at) (drop at s) ≡ leftOf s = take-all (length s - at) (drop at s) (omega (arith, d)) ∙ l .0 in
+    let m : at ≡ length s - length (leftOf s) = omega (arith, d, k, within) in
+    ap (λ (i : ℕ). take i line) (sub-zero n)
+    ∙ written-first space _ line n w
+    ∙ ap₂ (λ (i : ℕ) (x : List ℕ). endingText i x) (f ∙ ap₂ counted e m) rest

@@ -1,21 +1,28 @@
 -- What the turns of the program promise: the bytes that were read go to the runs in order, none twice and none lost, and the lines of the runs to the write. Assumes nothing.
 use mathlib.Core.Path.{_≡_}
-use mathlib.Core.Bool.{true, false, not, _&&_}
+use mathlib.Core.Bool.{Bool, true, false, not, _&&_}
 use mathlib.Core.List.{List, [], _++_}
-use Prim.Native.Nat.{ℕ, _-_, _≤_}
+use Prim.Native.Nat.{ℕ, _+_, _-_, _≤_, min}
+use lib.IntN.{ℤ, pos, negsuc}
 use lib.ListN.{length, take, drop}
 use Rattle.log.specs.Steps.{holdsField, logFrom, logOf}
 use Rattle.log.specs.Steps as log
 use Rattle.journal.specs.Runs.{Runs}
 use Rattle.steps.specs.Viewed.{viewed, Given}
+use Rattle.endings.specs.Endings.{leftOf, endingText}
 use Rattle.session_log.specs.declared.Turn.{Turn}
 
 -- the bytes that were read and not yet taken: they stand in the buffer between two indices
 abbrev pub waiting : Turn → List ℕ → List ℕ
 waiting t input = take (t .to - t .from) (drop (t .from) input)
 
+-- the bytes that the last run was handed
+abbrev pub handed : Turn → List ℕ → List ℕ
+handed t input = take (t .to - t .last) (drop (t .last) input)
+
 -- a turn whose indices lie in the buffer
 pub record Within (t : Turn) (input : List ℕ) : Type 0 where
+  pub begun : t .last ≤ t .from
   pub ordered : t .from ≤ t .to
   pub inside : t .to ≤ length input
 
@@ -41,13 +48,27 @@ pub record TakesFields (t : Turn) (codes words input space : List ℕ) (r : Turn
   pub within : Within r input
   pub journal : Journal r codes₂ words₂
   pub all : r .reads ≡ true → NoneWhole r input
+  pub before-kept : r .before ≡ t .before
+  pub began : r .last ≡ t .from
+  pub handed-all : handed r input ≡ waiting t input
 
--- a turn that reads: what waited stands at the start of the buffer, and behind it what was read
+-- a number counted up, no further than to the largest of 64 bits
+abbrev pub counted : ℕ → ℕ → ℕ
+counted n more = min (n + more) 18446744073709551615
+
+-- what a call that failed answers
+abbrev pub isNegative : ℤ → Bool
+isNegative (pos n) = false
+isNegative (negsuc n) = true
+
+-- a turn that reads: what waited stands at the start of the buffer, and behind it what was read; what stood before it is counted
 pub record ReadsMore (t : Turn) (input : List ℕ) (r : Turn) (after : List ℕ) : Type 0 where
   pub kept : waiting r after ≡ waiting t input ++ drop (length (waiting t input)) (waiting r after)
   pub standing-kept : r .standing ≡ t .standing
   pub within : Within r after
   pub takes-next : r .reads ≡ false
+  pub before-counted : r .before ≡ counted (t .before) (t .from)
+  pub from-start : (r .from ≡ 0) × (r .last ≡ 0)
 
 -- a turn reads or takes fields, as the last one said; one that reads keeps the codes and the words
 pub record Turned (t : Turn) (codes words input space : List ℕ) (r : Turn) (codes₂ words₂ input₂ after : List ℕ) : Type 0 where
@@ -80,3 +101,8 @@ LogOfTurns =
     → waiting t input ≡ []
     → TurnsAll t codes words input read text
     → text ≡ logOf read
+
+-- the line of a turn after which there is no more to do: for the offset in the session of what is left of what the last run was handed
+abbrev pub endingOf : Turn → List ℕ → List ℕ
+endingOf t input =
+    endingText (counted (counted (t .before) (t .last)) (length (handed t input) - length (leftOf (handed t input)))) (leftOf (handed t input))

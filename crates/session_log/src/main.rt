@@ -1,8 +1,12 @@
 // Reads a session from standard input and writes its log to standard output: the lines of all fields that were
-// read whole are written before more is read.
+// read whole are written before more is read. Where the log ended before the input did, a line on standard error says
+// where and why.
 use buffer_opening::internal::open_in;
+use endings::internal::put_ending;
+use endings::left_at;
 use journal::internal::run_in;
 use journal::internal::standing_at_start;
+use libc::STDERR_FILENO;
 use libc::STDIN_FILENO;
 use libc::STDOUT_FILENO;
 use steps::Standing;
@@ -10,14 +14,18 @@ ghost use mathlib.Core.Path.{_≡_};
 ghost use mathlib.Core.List.{_++_};
 ghost use Prim.Native.Nat.{_+_, _≤_};
 ghost use lib.ListN.{length, take, drop};
-ghost use Rattle.session_log.specs.Turns.{Within, Journal, Lines, TakesFields, ReadsMore, Turned};
+ghost use Rattle.session_log.specs.Turns.{Within, Journal, Lines, TakesFields, counted, isNegative, ReadsMore, Turned, endingOf};
 
-// Where the program stands: whether there is more to do, and whether it reads next or takes fields; the indices
-// between which the bytes wait that were read and not yet taken; the length of the last run's lines; the standing of
-// the log, whose codes and words stand in arrays that the turns change in place.
+// Where the program stands: whether there is more to do, whether it reads next or takes fields, and whether a read or
+// a write failed; how many bytes of the session stood before the buffer; the index at which the last run began, and
+// the indices between which the bytes wait that were read and not yet taken; the length of the last run's lines; the
+// standing of the log, whose codes and words stand in arrays that the turns change in place.
 struct Turn {
     more: bool,
     reads: bool,
+    failed: bool,
+    before: u64,
+    last: usize,
     from: usize,
     to: usize,
     length: usize,
@@ -36,6 +44,7 @@ fn take_fields(
     ensures { λ r. ⌜ TakesFields t (now (codes .entry)) (now (words .entry)) (now (input .entry)) (now (lines .entry)) r (now (codes .exit)) (now (words .exit)) (now (lines .exit)) ⌝ }
 {
     let standing = t.standing;
+    let before = t.before;
     let from = t.from;
     let to = t.to;
     let logged = run_in(standing, codes, words, &input[from..to], lines);
@@ -43,6 +52,9 @@ fn take_fields(
     Turn {
         more: !next.ended,
         reads: logged.length == 0,
+        failed: false,
+        before,
+        last: from,
         from: from + logged.used,
         to,
         length: logged.length,
@@ -99,6 +111,7 @@ fn log_fields(
         &lines[0..n],
     );
     next.more = written & next.more;
+    next.failed = !written;
     next
 }
 
@@ -114,6 +127,27 @@ fn move_to_start(input: &mut [u8], from: usize, n: usize)
     }
 }
 
+// Whether a read failed, which it says then.
+fn read_failed(answer: isize) -> bool
+    ensures { λ r. ⌜ r ≡ isNegative answer ⌝ }
+{
+    if answer < 0 {
+        os::fail(b"session_log");
+        return true;
+    }
+    false
+}
+
+// A number counted up; a sum that does not fit stays the largest number.
+fn count_up(n: u64, more: usize) -> u64
+    ensures { λ r. ⌜ r ≡ counted n more ⌝ }
+{
+    if u64::MAX - n < more as u64 {
+        return u64::MAX;
+    }
+    n + more as u64
+}
+
 // Moves what waits to the start and reads once behind it; input that ends, or cannot be read, is the end.
 fn read_more(t: Turn, input: &mut [u8]) -> Turn
     requires { ⌜ Within t (now input) ⌝ }
@@ -123,11 +157,16 @@ fn read_more(t: Turn, input: &mut [u8]) -> Turn
     move_to_start(input, t.from, left);
     let end = input.len();
     let answer = libc::read(STDIN_FILENO, &mut input[left..end]);
+    let failed = read_failed(answer);
     let n = io::count(answer, &input[left..end]);
+    let before = count_up(t.before, t.from);
     let standing = t.standing;
     Turn {
         more: 0 < n,
         reads: false,
+        failed,
+        before,
+        last: 0,
         from: 0,
         to: left + n,
         length: 0,
@@ -153,6 +192,35 @@ fn next_turn(
     }
 }
 
+// Writes the line that says where the log ended and why. It asks for the turn and the input, and uses neither, so that
+// its contract can say which line it is.
+fn write_ending(t: Turn, input: &[u8], line: &[u8])
+    requires { ⌜ now line ≡ endingOf t (now input) ⌝ }
+{
+    io::write_all(STDERR_FILENO, line);
+}
+
+// Says where the log ended and why, where something is left of what the last run was handed. Where a read or a write
+// failed, that was said.
+fn tell_ending(t: Turn, input: &[u8])
+    requires { ⌜ Within t (now input) ⌝ }
+{
+    if t.failed {
+        return;
+    }
+    let last = t.last;
+    let to = t.to;
+    let handed = &input[last..to];
+    let at = left_at(handed);
+    if at == handed.len() {
+        return;
+    }
+    let offset = count_up(count_up(t.before, last), at);
+    let mut line = [0u8; 128];
+    let n = put_ending(&mut line, offset, &handed[at..handed.len()]);
+    write_ending(t, input, &line[0..n]);
+}
+
 // A proved loop has to end, and nothing says that an input does: so the turns are counted down from a number that no run uses up.
 fn log_all(input: &mut [u8], lines: &mut [u8])
     requires { ⌜ 23040 ≤ length (now lines) ⌝ }
@@ -164,6 +232,9 @@ fn log_all(input: &mut [u8], lines: &mut [u8])
     let mut now = Turn {
         more: true,
         reads: true,
+        failed: false,
+        before: 0,
+        last: 0,
         from: 0,
         to: 0,
         length: 0,
@@ -174,6 +245,7 @@ fn log_all(input: &mut [u8], lines: &mut [u8])
         now = next_turn(now, &mut codes, &mut words, input, lines);
         turns -= 1;
     }
+    tell_ending(now, input);
 }
 
 // 131,072 zeros: room for any field, and for many of the usual ones.

@@ -42,7 +42,7 @@ standing-at-start-requires : tie.Need-standing-at-start-requires Inv-loop μ-loo
 standing-at-start-requires c κs = search needs
 
 loop-holds : tie.Need-loop-holds Inv-loop μ-loop
-loop-holds c = (refl, refl, record { ordered = omega arith; inside = omega arith }, record { given = c .standing-at-start .ensures [] _ .1; codes-length = refl; words-length = c .before .before .open-in .kept .0 }, omega arith)
+loop-holds c = (refl, refl, record { begun = omega arith; ordered = omega arith; inside = omega arith }, record { given = c .standing-at-start .ensures [] _ .1; codes-length = refl; words-length = c .before .before .open-in .kept .0 }, omega arith)
 
 next-turn-requires : tie.Need-next-turn-requires Inv-loop μ-loop
 next-turn-requires c κs = let h = c .before .before .before .before .before .before .loop .inv in (h .2, h .3, h .4)
@@ -59,6 +59,9 @@ loop-less c = omega (arith, some (c .before .before .before .before .before .bef
 
 loop-again : tie.Need-loop-again Inv-loop μ-loop
 loop-again c = let t = c .before .before .before .before .next-turn .ensures in (omega arith, omega arith, still-within t, still-journal t (c .before .before .before .before .before .before .before .before .before .before .before .loop .inv .3), omega arith)
+
+tell-ending-requires : tie.Need-tell-ending-requires Inv-loop μ-loop
+tell-ending-requires c κs = c .before .before .before .loop .inv .2
 
 same-length : tie.Need-same-length Inv-loop μ-loop
 same-length c = omega arith
@@ -87,6 +90,7 @@ log-all-spec =
     sub-turns
     loop-less
     loop-again
+    tell-ending-requires
     same-length
     same-length-2
     returns)

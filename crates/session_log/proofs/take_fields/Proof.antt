@@ -18,8 +18,8 @@ part-run-in-end c = search needs
 run-in-requires : tie.Need-run-in-requires
 run-in-requires c κs = search needs
 
-add-t16 : tie.Need-add-t16
-add-t16 c =
+add-t17 : tie.Need-add-t17
+add-t17 c =
     let start = c .before .before .before .before .before .before .before .before .before .before .before .before .before .before .before .before .before .before .before .before in
     let h = used-within (start .pre .0) (c .before .before .before .before .before .before .before .before .before .before .run-in .ensures .within) in
     omega (arith, h)
@@ -48,7 +48,7 @@ take-fields-spec =
     part-run-in-start
     part-run-in-end
     run-in-requires
-    add-t16
+    add-t17
     same-length
     same-length-2
     same-length-3
