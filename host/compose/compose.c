@@ -1,5 +1,5 @@
-// Turns a script of steps into the binary session that the session log reads. The head of
-// host/script/steps.h describes the steps.
+// Turns a script of steps into the binary session that the session log reads. host/script/LANGUAGE.txt describes
+// the steps.
 //
 // compose [SCRIPT] reads the script, or standard input, and writes the session to standard output. A
 // script that it cannot take gives an error with its name and the number of the line, status 2 and no session.

@@ -1,6 +1,5 @@
 // Goes through a script step by step and shows what each call gives: the reply and its errors, the awards,
-// the refusal in words, and where the tender then stands. The head of host/script/steps.h describes the
-// steps.
+// the refusal in words, and where the tender then stands. host/script/LANGUAGE.txt describes the steps.
 //
 // rehearse [SCRIPT] reads the script, or standard input. A script that it cannot take, or with a step that
 // makes no call, gives an error with its name and the number of the line, status 2 and nothing else.
