@@ -1,7 +1,7 @@
 -- Laws of what is left: a field past which the log goes on is passed over, and no other. Assumes nothing.
 use mathlib.Core.Path.{_≡_, refl, sym, ap, ap₂, _∙_}
 use mathlib.Core.Bool.{Bool, true, false, cond, not, _&&_}
-use mathlib.Core.List.{List}
+use mathlib.Core.List.{List, _++_}
 use Prim.Native.Nat.{ℕ, zero, suc, _+_, _-_, _≤_}
 use native.Mathlib.Nat.{add-zero}
 use native.Mathlib.Omega.{arith}
@@ -11,7 +11,7 @@ use borrow.Author.Tests.{le-leb}
 use Rattle.laws.proofs.Tests.{and-left}
 use Rattle.layout.specs.Fields.{lengthAt}
 use Rattle.log.specs.Steps.{tagOf, contentOf, afterField, holdsField}
-use Rattle.log.proofs.Walks.{no-head, with-head, held-whole, after-shorter}
+use Rattle.log.proofs.Walks.{no-head, with-head, held-whole, after-shorter, tag-before, content-before, after-before, held-before}
 use Rattle.endings.specs.Endings.{endsLog, goesOn, leftAfter, leftOf, LeftEnds}
 
 module _ (s : List ℕ) where
@@ -52,6 +52,13 @@ module _ (s : List ℕ) where
       left-enough (length s) (suc (length s)) s (omega arith) (omega arith)
       ∙ left-one (length s) h
       ∙ left-enough (length s) (length (afterField s)) (afterField s) (omega arith) (omega arith)
+
+-- a field past which the log goes on is passed over whatever follows
+pub left-past : (s rest : List ℕ) → holdsField s ≡ true → endsLog (tagOf s) (contentOf s) ≡ false → leftOf (s ++ rest) ≡ leftOf (afterField s ++ rest)
+left-past s rest h e =
+    let goes : goesOn (s ++ rest) ≡ true =
+    ap₂ (λ (b c : Bool). b && not c) (held-before s rest h) (ap₂ endsLog (tag-before s rest h) (content-before s rest h) ∙ e) in
+    left-next (s ++ rest) goes ∙ ap leftOf (after-before s rest h)
 
 -- what is left is no longer than the bytes
 pub left-short : (d : ℕ) (s : List ℕ) → length (leftAfter d s) ≤ length s

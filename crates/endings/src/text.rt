@@ -3,7 +3,6 @@ use digits::internal::put_digits;
 use output::internal::put;
 use output::internal::put_byte;
 ghost use mathlib.Core.Path.{_≡_};
-ghost use mathlib.Core.List.{[], _∷_};
 ghost use Prim.Native.Nat.{_+_, _≤_, _<_};
 ghost use lib.ListN.{length, drop};
 ghost use Rattle.output.specs.Output.{Wrote};

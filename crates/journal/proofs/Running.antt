@@ -12,20 +12,22 @@ use Rattle.output.proofs.Output.{nothing, then, from-start}
 use Rattle.layout.specs.Fields.{lengthAt}
 use Rattle.log.specs.Steps.{Log, step, tagOf, contentOf, afterField, holdsField, logFrom}
 use Rattle.log.proofs.Walks.{held-head, held-whole, field-first}
+use Rattle.endings.proofs.Ending.{ends-log}
+use Rattle.endings.proofs.Left.{left-past}
 use Rattle.steps.specs.Viewed.{kept}
 use Rattle.journal.specs.Runs.{Runs}
 use Rattle.journal.proofs.Kept.{log-kept}
 
 -- nothing taken yet
 pub none-taken : (l : Log) (s space : List ℕ) → Runs l s space l s space 0
-none-taken l s space = record { text = []; wrote = nothing space 0; log = λ rest. refl }
+none-taken l s space = record { text = []; wrote = nothing space 0; log = λ rest. refl; goes-on = λ h. (h, λ rest. refl) }
 
 -- a run that leads to another log under another name, or to one that goes on alike
 pub leads-to : {l k j : Log} {s space x after : List ℕ} {n : ℕ} → k ≡ j → Runs l s space k x after n → Runs l s space j x after n
 leads-to {l} {k} {j} {s} {space} {x} {after} {n} e r = subst (λ (o : Log). Runs l s space o x after n) e r
 
 pub keeps : {l k : Log} {s space x after : List ℕ} {n : ℕ} → Runs l s space k x after n → Runs l s space (kept k) x after n
-keeps {k = k} {x = x} r = record { text = r .text; wrote = r .wrote; log = λ rest. r .log rest ∙ ap (λ (t : List ℕ). r .text ++ t) (log-kept k (x ++ rest)) }
+keeps {k = k} {x = x} r = record { text = r .text; wrote = r .wrote; log = λ rest. r .log rest ∙ ap (λ (t : List ℕ). r .text ++ t) (log-kept k (x ++ rest)); goes-on = r .goes-on }
 
 -- one field more
 pub one-taken : {l k : Log} {s space x after next : List ℕ} {n m : ℕ}
@@ -39,6 +41,9 @@ one-taken {k = k} {x = x} r h e w =
           r .log rest
           ∙ ap (λ (t : List ℕ). r .text ++ t) (field-first x rest h k e)
           ∙ sym (append-assoc (r .text) (step k (tagOf x) (contentOf x) .1) (logFrom (step k (tagOf x) (contentOf x) .0) (afterField x ++ rest)));
+      goes-on = λ on.
+          let before = r .goes-on e in
+          (before .0, λ rest. before .1 rest ∙ left-past x rest h (sym (ends-log k (tagOf x) (contentOf x) e) ∙ on));
     }
 
 -- all that follows an index, lent as a part of so many bytes and given back
@@ -75,6 +80,10 @@ and-then {k = k} {j = j} {after = after} {y = y} {part = part} {n = n} {m = m} r
           r .log rest
           ∙ ap (λ (t : List ℕ). r .text ++ t) (q .log rest)
           ∙ sym (append-assoc (r .text) (q .text) (logFrom j (y ++ rest)));
+      goes-on = λ on.
+          let later = q .goes-on on in
+          let first = r .goes-on (later .0) in
+          (first .0, λ rest. first .1 rest ∙ later .1 rest);
     }
 
 -- the field at an index, as the code reads it

@@ -7,16 +7,18 @@ use lib.Dec.{leb}
 use lib.ListN.{length, take, drop}
 use Rattle.output.specs.Output.{Wrote}
 use Rattle.log.specs.Steps.{Log, start, holdsField, logFrom, logOf}
+use Rattle.endings.specs.Endings.{leftOf}
 use Rattle.steps.specs.Viewed as steps
 use Rattle.journal.specs.declared.Logged.{Logged}
 use Rattle.journal.specs.declared.internal.Ran.{Ran}
 use Rattle.journal.specs.Viewed.{viewed, Given}
 
--- text is written at the start of the space, and the log of the bytes s from a state on, whatever follows them, is the text and then the log of what is left of them from the next state on
+-- text is written at the start of the space, and the log of the bytes s from a state on, whatever follows them, is the text and then the log of what is left of them from the next state on; where it has not ended, it goes on past all fields that were taken
 pub record Runs (from : Log) (s space : List ℕ) (to : Log) (left after : List ℕ) (n : ℕ) : Type 0 where
   pub text : List ℕ
   pub wrote : Wrote space 0 text after n
   pub log : (rest : List ℕ) → logFrom from (s ++ rest) ≡ text ++ logFrom to (left ++ rest)
+  pub goes-on : to .ended ≡ false → (from .ended ≡ false) × ((rest : List ℕ) → leftOf (s ++ rest) ≡ leftOf (left ++ rest))
 
 -- a run over an input: it leaves no whole field while the log has not ended and the space has room for 640 lines of 36 bytes, and gives a journal that may be handed to the next run
 pub record Logs (from : Log) (input space : List ℕ) (r : Logged) (after : List ℕ) : Type 0 where

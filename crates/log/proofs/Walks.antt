@@ -76,10 +76,10 @@ module _ (s rest : List ℕ) (h : holdsField s ≡ true) where
       ap₂ (λ (n : ℕ) (x : List ℕ). take n x) length-before (drop-append-le 3 s rest w)
       ∙ take-append-le (lengthAt s) (drop 3 s) rest (omega (arith, length-drop 3 s))
 
-  after-before : afterField (s ++ rest) ≡ afterField s ++ rest
+  pub after-before : afterField (s ++ rest) ≡ afterField s ++ rest
   after-before = ap (λ (n : ℕ). drop (3 + n) (s ++ rest)) length-before ∙ drop-append-le (3 + lengthAt s) s rest (held-whole s h)
 
-  held-before : holdsField (s ++ rest) ≡ true
+  pub held-before : holdsField (s ++ rest) ≡ true
   held-before =
       let w = held-head s h in
       let v = held-whole s h in

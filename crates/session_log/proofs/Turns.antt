@@ -49,7 +49,7 @@ kept-first w after left n l p =
     sym (take-append-drop left now) ∙ ap₂ (λ (x : List ℕ) (k : ℕ). x ++ drop k now) q (sym l)
 
 -- as many bytes wait as stand between the indices
-waiting-length : {t : Turn} {input : List ℕ} → Within t input → length (waiting t input) ≡ t .to - t .from
+pub waiting-length : {t : Turn} {input : List ℕ} → Within t input → length (waiting t input) ≡ t .to - t .from
 waiting-length {t} {input} w =
     let inside = w .inside in
     let fits : t .to - t .from ≤ length (drop (t .from) input) = rw (length-drop (t .from) input) (omega (arith, inside)) in

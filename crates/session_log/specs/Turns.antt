@@ -106,3 +106,29 @@ LogOfTurns =
 abbrev pub endingOf : Turn → List ℕ → List ℕ
 endingOf t input =
     endingText (counted (counted (t .before) (t .last)) (length (handed t input) - length (leftOf (handed t input)))) (leftOf (handed t input))
+
+-- turns one after another, each made while the log has not ended: the bytes that they read, joined, and the turn and the buffer that they lead to
+pub data TurnsTo : Turn → List ℕ → List ℕ → List ℕ → List ℕ → Turn → List ℕ → Type 0 where
+  stays : {t : Turn} {codes words input : List ℕ} → TurnsTo t codes words input [] t input
+  then-reads :
+      {t r e : Turn} {codes words input after read last : List ℕ}
+      → t .standing .ended ≡ false
+      → ReadsMore t input r after
+      → TurnsTo r codes words after read e last
+      → TurnsTo t codes words input (got t input r after ++ read) e last
+  then-takes :
+      {t r e : Turn} {codes words codes₂ words₂ input space after read last : List ℕ}
+      → t .standing .ended ≡ false
+      → TakesFields t codes words input space r codes₂ words₂ after
+      → TurnsTo r codes₂ words₂ input read e last
+      → TurnsTo t codes words input read e last
+
+-- from the first turn on, the line of an ending is that of the bytes read: its offset is where what is left of all of them starts
+abbrev pub EndingOfTurns : Type 0
+EndingOfTurns =
+    (t : Turn) (codes words input read : List ℕ) (e : Turn) (last : List ℕ)
+    → t .standing .ended ≡ false
+    → (t .before ≡ 0) × (t .to ≡ 0)
+    → Within t input
+    → TurnsTo t codes words input read e last
+    → endingOf e last ≡ endingText (counted 0 (length read - length (leftOf read))) (leftOf read)
