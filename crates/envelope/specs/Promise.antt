@@ -2,16 +2,27 @@
 use mathlib.Core.Path.{_≡_}
 use mathlib.Core.Bool.{true}
 use mathlib.Core.List.{List, _++_}
-use Prim.Native.Nat.{ℕ}
+use Prim.Native.Nat.{ℕ, _+_, _≤_}
 use lib.ListN.{length}
 use Rattle.digits.specs.Decimal.{digits}
 use Rattle.layout.specs.Fields.{head, field, IsOneOf, readable, whole}
 use Rattle.envelope.specs.declared.application.Field.{Field}
+use Rattle.envelope.specs.declared.application.Field.the-variants.{Sender, Recipient}
 use Rattle.envelope.specs.Application.{entryOf, layout6G1, position, bytesOf}
 
--- 'Whole: 339 bytes'
+-- 'Fields 040 and 050 of a 6G1 may each have length 5 or 14, so it is 339, 348 or 357 bytes'
 abbrev pub MessageLength : Type 0
-MessageLength = (m : List ℕ) → readable layout6G1 m ≡ true → length m ≡ 339
+MessageLength = (m : List ℕ) → readable layout6G1 m ≡ true → length m ≡ 329 + length (bytesOf Sender m) + length (bytesOf Recipient m)
+
+abbrev pub ShortestMessage : Type 0
+ShortestMessage = (m : List ℕ) → readable layout6G1 m ≡ true → 339 ≤ length m
+
+abbrev pub LongestMessage : Type 0
+LongestMessage = (m : List ℕ) → readable layout6G1 m ≡ true → length m ≤ 357
+
+-- the sender has five bytes or more, and at most 14
+abbrev pub SenderLength : Type 0
+SenderLength = (m : List ℕ) → readable layout6G1 m ≡ true → (5 ≤ length (bytesOf Sender m)) × (length (bytesOf Sender m) ≤ 14)
 
 -- each field of a readable 6G1 is within it
 abbrev pub FieldWhole : Type 0
