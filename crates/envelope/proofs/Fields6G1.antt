@@ -14,6 +14,7 @@ use Rattle.layout.proofs.Ends.{readable-split, head-length, offset-next, offset
 use Rattle.envelope.specs.declared.application.Field.{Field}
 use Rattle.envelope.specs.declared.application.Field.the-variants.{MessageType, Sender, Recipient, Cro, Date, Time, Check, Identifier, Bids, Name}
 use Rattle.envelope.specs.Application.{entryOf, layout6G1, position, bytesOf}
+use Rattle.envelope.specs.Promise.{isLast, start, width}
 
 -- the first fields, and the last, which have one length each
 abbrev pub first6G1 : List FieldEntry
@@ -54,43 +55,6 @@ placed Identifier = refl
 placed Bids = refl
 placed Name = refl
 
--- the fields that the last 339 bytes have at one index, that index and their length
-abbrev pub isLast : Field → Bool
-isLast MessageType = false
-isLast Sender = false
-isLast Recipient = false
-isLast Cro = true
-isLast Date = true
-isLast Time = true
-isLast Check = true
-isLast Identifier = true
-isLast Bids = true
-isLast Name = true
-
-abbrev pub start : Field → ℕ
-start MessageType = 0
-start Sender = 0
-start Recipient = 0
-start Cro = 25
-start Date = 39
-start Time = 50
-start Check = 59
-start Identifier = 67
-start Bids = 81
-start Name = 324
-
-abbrev pub width : Field → ℕ
-width MessageType = 0
-width Sender = 0
-width Recipient = 0
-width Cro = 11
-width Date = 8
-width Time = 6
-width Check = 5
-width Identifier = 11
-width Bids = 240
-width Name = 15
-
 -- one of the two lengths of an address, as the reader of addresses asks for it
 abbrev FiveOrFourteen : ℕ → Type 0
 FiveOrFourteen w = (w ≢ 5 → w ≡ 14) × (5 ≤ w) × (w ≤ 14)
@@ -106,15 +70,18 @@ module _ (m : List ℕ) (h : readable layout6G1 m ≡ true) where
   length-field f = field-length layout6G1 m h (position f) (entryOf f) (placed f)
 
   -- where sender and recipient stand, and how long they are
-  pub sender-at : offset 1 m ≡ 6
+  sender-at : offset 1 m ≡ 6
   unfolding offset
   sender-at = let n = head-length layout6G1 m h 0 (entryOf MessageType) (placed MessageType) in omega arith
 
   sender-length : FiveOrFourteen (lengthAt (drop 6 m))
   sender-length = five-or-fourteen (lengthAt (drop 6 m)) (rw sender-at at (head-length layout6G1 m h 1 (entryOf Sender) (placed Sender)))
 
-  pub recipient-at : offset 2 m ≡ 9 + lengthAt (drop 6 m)
+  recipient-at : offset 2 m ≡ 9 + lengthAt (drop 6 m)
   recipient-at = offset-next 1 m ∙ rw sender-at (omega arith)
+
+  pub addresses-at : (offset 1 m ≡ 6) × (offset 2 m ≡ 9 + lengthAt (drop 6 m))
+  addresses-at = (sender-at, recipient-at)
 
   recipient-length : FiveOrFourteen (lengthAt (drop (9 + lengthAt (drop 6 m)) m))
   recipient-length = five-or-fourteen (lengthAt (drop (9 + lengthAt (drop 6 m)) m)) (rw recipient-at at (head-length layout6G1 m h 2 (entryOf Recipient) (placed Recipient)))
@@ -158,12 +125,12 @@ module _ (m : List ℕ) (h : readable layout6G1 m ≡ true) where
       let l = by-heads in
       (subst (λ (x : ℕ). x ≢ 5 → x ≡ 14) (sym g) (r .0), omega (arith, r .1), omega arith, ap₂ (λ (x y : ℕ). take y (drop (12 + x) m)) e g ∙ sym recipient-bytes)
 
-  pub length-sender : length (bytesOf Sender m) ≡ lengthAt (drop 6 m)
+  length-sender : length (bytesOf Sender m) ≡ lengthAt (drop 6 m)
   length-sender =
       let s = sender-read (lengthAt (drop 6 m)) refl in
       ap length sender-bytes ∙ length-take-le (lengthAt (drop 6 m)) (drop 9 m) (omega (arith, s .2, length-drop 9 m))
 
-  pub length-recipient : length (bytesOf Recipient m) ≡ lengthAt (drop (9 + lengthAt (drop 6 m)) m)
+  length-recipient : length (bytesOf Recipient m) ≡ lengthAt (drop (9 + lengthAt (drop 6 m)) m)
   length-recipient =
       let w = lengthAt (drop 6 m) in
       let r = recipient-read w (lengthAt (drop (9 + w) m)) refl refl in
@@ -174,6 +141,14 @@ module _ (m : List ℕ) (h : readable layout6G1 m ≡ true) where
 
   pub sender-within : (5 ≤ length (bytesOf Sender m)) × (length (bytesOf Sender m) ≤ 14)
   sender-within = (omega (arith, length-sender, sender-length .1), omega (arith, length-sender, sender-length .2))
+
+  -- in 339 bytes both are short
+  pub short-addresses : length m ≡ 339 → (bytesOf Sender m ≡ take 5 (drop 9 m)) × (bytesOf Recipient m ≡ take 5 (drop 17 m))
+  short-addresses e =
+      let l = by-heads in
+      let w : lengthAt (drop 6 m) ≡ 5 = omega (arith, sender-length .1, recipient-length .1) in
+      let v : lengthAt (drop (9 + lengthAt (drop 6 m)) m) ≡ 5 = omega (arith, sender-length .1, recipient-length .1) in
+      (sender-bytes ∙ ap (λ (x : ℕ). take x (drop 9 m)) w, recipient-bytes ∙ ap₂ (λ (x y : ℕ). take y (drop (12 + x) m)) w v)
 
   -- the code that both forms of a sender start with
   pub code-bytes : take 5 (drop 9 m) ≡ take 5 (bytesOf Sender m)

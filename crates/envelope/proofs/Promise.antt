@@ -1,5 +1,5 @@
 -- What the envelope promises holds. Assumes nothing.
-use Rattle.envelope.specs.Promise.{MessageLength, ShortestMessage, LongestMessage, SenderLength, FieldWhole, FieldLength, NumberField}
+use Rattle.envelope.specs.Promise.{MessageLength, ShortestMessage, LongestMessage, SenderLength, LastBytes, AddressesAt, ShortAddresses, FieldWhole, FieldLength, NumberField}
 use Rattle.envelope.proofs.Fields6G1 as fields
 use Rattle.envelope.proofs.Writing as writing
 
@@ -14,6 +14,15 @@ longest-message = fields.at-most-357
 
 pub sender-length : SenderLength
 sender-length = fields.sender-within
+
+pub last-bytes : LastBytes
+last-bytes = fields.last-bytes
+
+pub addresses-at : AddressesAt
+addresses-at = fields.addresses-at
+
+pub short-addresses : ShortAddresses
+short-addresses = fields.short-addresses
 
 pub whole-field : FieldWhole
 whole-field = fields.whole-field

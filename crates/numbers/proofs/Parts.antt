@@ -1,124 +1,134 @@
--- Laws of the parts of a message: each field of a readable 6G1 stands where the layout puts it. Assumes nothing.
+-- Laws of the parts of a message: where a readable 6G1 has what the numbers tell. Assumes nothing.
 use mathlib.Core.Path.{_≡_, refl, sym, ap, ap₂, _∙_}
 use mathlib.Core.Bool.{true}
 use mathlib.Core.List.{List, [], _∷_, _++_}
-use Prim.Native.Nat.{ℕ, zero, suc, _+_, _*_, _-_, _≤_, _<_}
-use native.Mathlib.Nat.{not-suc-le-zero, le-of-suc-le-suc}
+use Prim.Native.Nat.{ℕ, _+_, _*_, _-_, _≤_, _<_}
 use native.Mathlib.Numerals.{add-one}
 use native.Mathlib.Omega.{arith}
 use lib.Dec.{lit<}
-use lib.ListN.{length, take, drop, getD}
-use lib.Seq.{drop-drop, take-take}
+use lib.ListN.{length, take, drop, length-drop}
+use lib.Seq.{drop-drop, take-all, length-take-le}
 use borrow.Author.Tests.{lt-ltb}
-use Rattle.laws.proofs.Tests.{and-right}
+use Rattle.digits.specs.declared.Digits.{Digits}
+use Rattle.digits.specs.declared.Digits.the-variants.{Number, None}
 use Rattle.digits.specs.Decimal.{digitsOf}
-use Rattle.layout.specs.Fields.{lengthAt, starts, readable, offset, content}
-use Rattle.layout.proofs.Fields.{offset-within, content-at}
-use Rattle.layout.proofs.ReturnTrip.{whole-of}
-use Rattle.layout.proofs.Fixed.{fixed, first-length}
+use Rattle.layout.specs.Fields.{lengthAt, readable, offset}
+use Rattle.layout.proofs.Fixed.{fixed, bytesIn}
+use Rattle.layout.proofs.Ends.{offset-from-end}
+use Rattle.addresses.specs.declared.Address.{Address}
+use Rattle.addresses.specs.Addresses.{codeAddress, addressOf}
+use Rattle.addresses.proofs.Reading.{part-of, five-is}
 use Rattle.places.specs.Bids.{placeOf}
-use Rattle.envelope.specs.declared.application.Field.the-variants.{Bids}
+use Rattle.envelope.specs.declared.application.Field.{Field}
+use Rattle.envelope.specs.declared.application.Field.the-variants.{Sender, Recipient, Cro, Date, Time, Check, Bids}
 use Rattle.envelope.specs.declared.application.Fields.{Fields}
-use Rattle.envelope.specs.Application.{one, layout6G1, bytesOf, fieldsOf}
-use Rattle.envelope.proofs.Promise.{fields6G1}
-use Rattle.numbers.specs.ByNumber.{hasField, startOf, fieldDigits, placeNumbered, placeAt}
-use Rattle.numbers.specs.Numbers.{placeNumbers, placesNumbers, textStarts}
-use Rattle.numbers.proofs.ByNumber.{fields-read, digits-there, place-there}
+use Rattle.envelope.specs.Application.{layout6G1, bytesOf, fieldsOf, reading}
+use Rattle.envelope.specs.Promise.{isLast, start, width}
+use Rattle.envelope.proofs.Promise.{shortest-message, last-bytes, addresses-at, short-addresses}
+use Rattle.numbers.specs.ByNumber.{hasField, startOf, codeDigits, fieldDigits, placeNumbered, placeAt}
+use Rattle.numbers.specs.Numbers.{placeNumbers, placesNumbers, textStarts, addressNumbers, addressesNumbers}
+use Rattle.numbers.proofs.ByNumber.{fields-read, sender-there, recipient-there, sender-code, recipient-code, digits-there, place-there}
 
--- how many bytes its fields before the k-th take
-unfoldable before : ℕ → List (ℕ × ℕ) → ℕ
-before zero fs = 0
-before (suc k) [] = 0
-before (suc k) (f ∷ fs) = 3 + f .1 + before k fs
+-- the last 339 bytes of m, as the code has them
+abbrev pub last : List ℕ → List ℕ
+last m = take (length m - (length m - 339)) (drop (length m - 339) m)
 
--- the length of its k-th field
-abbrev width : ℕ → List (ℕ × ℕ) → ℕ
-width k fs = getD fs k (0, 0) .1
+-- the code of five bytes is what they hold
+code-of-five : (d : Digits) → codeDigits (codeAddress d) ≡ d
+code-of-five None = refl
+code-of-five (Number n) = refl
 
--- where the k-th field stands, and the length that its head gives
-stands : (fs : List (ℕ × ℕ)) (m : List ℕ) → readable (fixed fs) m ≡ true → (k : ℕ) → k < length fs → (offset k m ≡ before k fs) × (lengthAt (drop (offset k m) m) ≡ width k fs)
-unfolding readable fixed before offset
-stands [] m h k l = absurd (not-suc-le-zero l)
-stands (f ∷ fs) m h zero l = (refl, first-length f fs m h)
-stands (f ∷ fs) m h (suc k) l =
-    let e = one (f .0) (f .1) in
-    let rest = drop (3 + lengthAt m) m in
-    let n = first-length f fs m h in
-    let s = stands fs rest (and-right (starts e m) (readable (fixed fs) rest) h) k (le-of-suc-le-suc l) in
-    (ap₂ (λ (x y : ℕ). 3 + x + y) n (s .0), ap lengthAt (sym (drop-drop (offset k rest) (3 + lengthAt m) m)) ∙ s .1)
+five : (s t : List ℕ) → length s ≡ 5 → t ≡ s → addressOf t ≡ codeAddress (digitsOf s)
+five s t l e = ap addressOf e ∙ sym (five-is s l)
 
 module _ (m : List ℕ) (h : readable layout6G1 m ≡ true) where
-  at-fixed : (k : ℕ) → k < 10 → (offset k m ≡ before k fields6G1) × (lengthAt (drop (offset k m) m) ≡ width k fields6G1)
-  unfolding layout6G1 fixed
-  at-fixed k l = stands fields6G1 m h k l
-
   pub all-bytes : 339 ≤ length m
-  unfolding layout6G1 before
-  all-bytes =
-      let s = at-fixed 9 (lit< tt) in
-      let w = offset-within 9 m (offset 9 m) (whole-of layout6G1 m h 9 (lit< tt)) refl in
-      omega (arith, s .0, s .1, w)
+  all-bytes = shortest-message m h
 
-  -- field k as a part of m at a fixed index
-  part : (k at n : ℕ) → k < 10 → before k fields6G1 ≡ at → width k fields6G1 ≡ n → take (at + 3 + n - (at + 3)) (drop (at + 3) m) ≡ content k m
-  part k at n l b w =
-      let s = at-fixed k l in
-      let a : at ≡ offset k m = sym (s .0 ∙ b) in
-      content-at k m at n a (sym (ap (λ (j : ℕ). lengthAt (drop j m)) a ∙ s .1 ∙ w))
+  to-end : last m ≡ drop (length m - 339) m
+  to-end = take-all (length m - (length m - 339)) (drop (length m - 339) m) (omega (arith, all-bytes, length-drop (length m - 339) m))
 
-  digits-part : (k at n : ℕ) → 1 ≤ k → k ≤ 6 → before k fields6G1 ≡ at → width k fields6G1 ≡ n → digitsOf (take (at + 3 + n - (at + 3)) (drop (at + 3) m)) ≡ fieldDigits k m
-  digits-part k at n l u b w = ap digitsOf (part k at n (omega arith) b w) ∙ sym (digits-there k m h l u)
+  pub length-last : length (last m) ≡ 339
+  length-last = ap length to-end ∙ omega (arith, all-bytes, length-drop (length m - 339) m)
 
-  pub sender-part : digitsOf (take 5 (drop 9 m)) ≡ fieldDigits 1 m
-  unfolding before
-  sender-part = digits-part 1 6 5 (omega arith) (omega arith) refl refl
+  -- in 339 bytes both addresses are short
+  module _ (e : length m ≡ 339) where
+    short-sender : reading m .1 .sender ≡ codeAddress (digitsOf (take 5 (drop 9 m)))
+    short-sender = sender-there m h ∙ five (take 5 (drop 9 m)) (bytesOf Sender m) (length-take-le 5 (drop 9 m) (omega (arith, length-drop 9 m))) (short-addresses m h e .0)
 
-  pub recipient-part : digitsOf (take 5 (drop 17 m)) ≡ fieldDigits 2 m
-  unfolding before
-  recipient-part = digits-part 2 14 5 (omega arith) (omega arith) refl refl
+    short-recipient : reading m .1 .recipient ≡ codeAddress (digitsOf (take 5 (drop 17 m)))
+    short-recipient = recipient-there m h ∙ five (take 5 (drop 17 m)) (bytesOf Recipient m) (length-take-le 5 (drop 17 m) (omega (arith, length-drop 17 m))) (short-addresses m h e .1)
 
-  pub cro-part : digitsOf (take 11 (drop 25 m)) ≡ fieldDigits 3 m
-  unfolding before
-  cro-part = digits-part 3 22 11 (omega arith) (omega arith) refl refl
+    pub sender-part : digitsOf (take 5 (drop 9 m)) ≡ fieldDigits 1 m
+    sender-part = sym (sender-code m h 1 refl ∙ ap codeDigits (sym (sender-there m h) ∙ short-sender) ∙ code-of-five (digitsOf (take 5 (drop 9 m))))
 
-  pub date-part : digitsOf (take 8 (drop 39 m)) ≡ fieldDigits 4 m
-  unfolding before
-  date-part = digits-part 4 36 8 (omega arith) (omega arith) refl refl
+    pub recipient-part : digitsOf (take 5 (drop 17 m)) ≡ fieldDigits 2 m
+    recipient-part = sym (recipient-code m h 2 refl ∙ ap codeDigits (sym (recipient-there m h) ∙ short-recipient) ∙ code-of-five (digitsOf (take 5 (drop 17 m))))
 
-  pub time-part : digitsOf (take 6 (drop 50 m)) ≡ fieldDigits 5 m
-  unfolding before
-  time-part = digits-part 5 47 6 (omega arith) (omega arith) refl refl
+    no-branch : (d : Digits) (text : ℕ) → addressNumbers (codeAddress d) text ≡ 0 ∷ 0 ∷ 0 ∷ []
+    unfolding addressNumbers
+    no-branch None text = refl
+    no-branch (Number n) text = refl
 
-  pub check-part : digitsOf (take 5 (drop 59 m)) ≡ fieldDigits 6 m
-  unfolding before
-  check-part = digits-part 6 56 5 (omega arith) (omega arith) refl refl
+    pub no-branches : ((0 ∷ 0 ∷ 0 ∷ []) ++ (0 ∷ 0 ∷ 0 ∷ [])) ≡ addressesNumbers m
+    unfolding addressesNumbers
+    no-branches =
+        sym
+        (ap₂ (λ (s t : List ℕ). s ++ t)
+        (ap (λ (a : Address). addressNumbers a (startOf 1 m + 12)) short-sender ∙ no-branch (digitsOf (take 5 (drop 9 m))) (startOf 1 m + 12))
+        (ap (λ (a : Address). addressNumbers a (startOf 2 m + 12)) short-recipient ∙ no-branch (digitsOf (take 5 (drop 17 m))) (startOf 2 m + 12)))
 
-  -- where the texts start
-  start-is : (k at : ℕ) → k < 10 → before k fields6G1 ≡ at → at + 3 ≡ startOf k m
+  -- the digit fields after them
+  part : (f : Field) → isLast f ≡ true → take (width f) (drop (start f) (last m)) ≡ bytesOf f m
+  part f e = ap (λ (s : List ℕ). take (width f) (drop (start f) s)) to-end ∙ sym (last-bytes m h f e)
+
+  pub cro-part : digitsOf (take 11 (drop 25 (last m))) ≡ fieldDigits 3 m
+  cro-part = ap digitsOf (part Cro refl) ∙ sym (digits-there 3 m h (omega arith) (omega arith))
+
+  pub date-part : digitsOf (take 8 (drop 39 (last m))) ≡ fieldDigits 4 m
+  date-part = ap digitsOf (part Date refl) ∙ sym (digits-there 4 m h (omega arith) (omega arith))
+
+  pub time-part : digitsOf (take 6 (drop 50 (last m))) ≡ fieldDigits 5 m
+  time-part = ap digitsOf (part Time refl) ∙ sym (digits-there 5 m h (omega arith) (omega arith))
+
+  pub check-part : digitsOf (take 5 (drop 59 (last m))) ≡ fieldDigits 6 m
+  check-part = ap digitsOf (part Check refl) ∙ sym (digits-there 6 m h (omega arith) (omega arith))
+
+  -- where fields start
+  start-is : (k at : ℕ) → k < 10 → offset k m + 3 ≡ at → at ≡ startOf k m
   unfolding startOf hasField
-  start-is k at l b = rw (h, lt-ltb k 10 l, at-fixed k l .0, b)
+  start-is k at l e = rw (h, lt-ltb k 10 l) (sym e)
 
-  pub starts-are : (3 ∷ 67 ∷ 324 ∷ []) ≡ textStarts m
-  unfolding textStarts before
+  pub starts-are : (3 ∷ (length m - 272) ∷ (length m - 15) ∷ []) ≡ textStarts m
+  unfolding textStarts layout6G1 fixed bytesIn offset
   starts-are =
-      let type = start-is 0 0 (lit< tt) refl in
-      let identifier = start-is 7 64 (lit< tt) refl in
-      let name = start-is 9 321 (lit< tt) refl in
+      let i = offset-from-end layout6G1 m 7 ((0x70, 11) ∷ (0x76, 240) ∷ (0x7f, 15) ∷ []) h (omega arith) refl in
+      let n = offset-from-end layout6G1 m 9 ((0x7f, 15) ∷ []) h (omega arith) refl in
+      let type = start-is 0 3 (lit< tt) refl in
+      let identifier = start-is 7 (length m - 272) (lit< tt) (omega (arith, i)) in
+      let name = start-is 9 (length m - 15) (lit< tt) (omega (arith, n)) in
       λ i. type i ∷ identifier i ∷ name i ∷ []
 
--- a part of a part
-part-of-part : (a n w : ℕ) (s : List ℕ) → a + n ≤ w → take n (drop a (take w s)) ≡ take n (drop a s)
-part-of-part zero n w s h = take-take n w s (omega arith)
-part-of-part (suc a) n zero s h = absurd (let z : ⊥ = omega arith in z)
-part-of-part (suc a) n (suc w) [] h = refl
-part-of-part (suc a) n (suc w) (b ∷ s) h = part-of-part a n w s (omega arith)
+  -- the long forms, with the indices of their characters
+  pub sender-numbers : addressNumbers (addressOf (bytesOf Sender m)) 21 ≡ addressNumbers (reading m .1 .sender) (startOf 1 m + 12)
+  sender-numbers =
+      let s = start-is 1 9 (lit< tt) (omega (arith, addresses-at m h .0)) in
+      ap₂ addressNumbers (sym (sender-there m h)) (ap (λ (k : ℕ). k + 12) s)
+
+  pub recipient-numbers : (w : ℕ) → w ≡ lengthAt (drop 6 m) → addressNumbers (addressOf (bytesOf Recipient m)) (w + 24) ≡ addressNumbers (reading m .1 .recipient) (startOf 2 m + 12)
+  recipient-numbers w e =
+      let s = start-is 2 (w + 12) (lit< tt) (omega (arith, addresses-at m h .1)) in
+      let i : w + 24 ≡ startOf 2 m + 12 = omega (arith, s) in
+      ap₂ addressNumbers (sym (recipient-there m h)) i
 
 -- place k as a part of m
-pub place-part : (m : List ℕ) → readable layout6G1 m ≡ true → (k : ℕ) → k < 10 → placeOf (take 24 (drop (81 + 24 * k) m)) ≡ placeAt k m
-unfolding placeAt fieldsOf before
+pub place-part : (m : List ℕ) → readable layout6G1 m ≡ true → (k : ℕ) → k < 10 → placeOf (take 24 (drop (length m - 258 + 24 * k) m)) ≡ placeAt k m
+unfolding placeAt fieldsOf
 place-part m h k l =
-    let bids : take 240 (drop 81 m) ≡ bytesOf Bids m = part m h 8 78 240 (lit< tt) refl refl in
-    let inside = part-of-part (24 * k) 24 240 (drop 81 m) (omega arith) ∙ ap (take 24) (drop-drop (24 * k) 81 m) in
+    let n = all-bytes m h in
+    let i : length m - 339 + 81 ≡ length m - 258 = omega arith in
+    let bids : take 240 (drop (length m - 258) m) ≡ bytesOf Bids m = sym (last-bytes m h Bids refl ∙ ap (take 240) (drop-drop 81 (length m - 339) m ∙ ap (λ (j : ℕ). drop j m) i)) in
+    let inside = part-of (24 * k) 24 240 (drop (length m - 258) m) (omega arith) ∙ ap (take 24) (drop-drop (24 * k) (length m - 258) m) in
     ap placeOf (sym inside ∙ ap (λ (s : List ℕ). take 24 (drop (24 * k) s)) bids)
     ∙ sym (ap (λ (f : Fields). placeNumbered k (f .places)) (fields-read m h) ∙ place-there k (bytesOf Bids m) l)
 
