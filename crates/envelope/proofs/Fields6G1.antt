@@ -1,41 +1,45 @@
--- Laws of the fields of a readable 6G1. Assumes nothing.
-use mathlib.Core.Path.{_≡_, refl}
-use mathlib.Core.Logic.{_≢_}
-use mathlib.Core.Bool.{true, false}
+-- Laws of the fields of a readable 6G1: the first three by their lengths, the others by their distance from its end. Assumes nothing.
+use mathlib.Core.Path.{_≡_, refl, sym, ap, ap₂, subst, _∙_}
+use mathlib.Core.Logic.{_≢_, _⊎_, ⊎-elim}
+use mathlib.Core.Bool.{Bool, true, false, _&&_, false≢true}
 use mathlib.Core.List.{List, [], _∷_}
-use Prim.Native.Nat.{ℕ}
-use lib.ListN.{length}
-use Rattle.layout.specs.Fields.{IsOneOf, readable, whole}
+use Prim.Native.Nat.{ℕ, _+_, _-_, _≤_, _<_}
+use native.Mathlib.Omega.{arith}
+use lib.ListN.{length, take, drop, length-drop}
+use lib.Seq.{drop-drop, take-all, take-take, length-take-le}
+use Rattle.layout.specs.Fields.{FieldEntry, IsOneOf, lengthAt, readable, offset, content, whole}
 use Rattle.layout.proofs.ReturnTrip.{Stands, field-whole, field-length}
-use Rattle.layout.proofs.Fixed.{fixed, bytesIn, length-fixed, other-length}
+use Rattle.layout.proofs.Fixed.{fixed, bytesIn}
+use Rattle.layout.proofs.Ends.{readable-split, head-length, offset-next, offset-from-end, content-from-end}
 use Rattle.envelope.specs.declared.application.Field.{Field}
 use Rattle.envelope.specs.declared.application.Field.the-variants.{MessageType, Sender, Recipient, Cro, Date, Time, Check, Identifier, Bids, Name}
 use Rattle.envelope.specs.Application.{entryOf, layout6G1, position, bytesOf}
+use Rattle.envelope.specs.Promise.{isLast, start, width}
 
--- the tags and lengths of a 6G1, in their order
-abbrev pub fields6G1 : List (ℕ × ℕ)
-fields6G1 =
-    (0x01, 3)
-    ∷ (0x04, 5)
-    ∷ (0x05, 5)
-    ∷ (0x02, 11)
-    ∷ (0x31, 8)
-    ∷ (0x60, 6)
-    ∷ (0x10, 5)
-    ∷ (0x70, 11)
-    ∷ (0x76, 240)
-    ∷ (0x7f, 15)
-    ∷ []
+-- the first fields, and the last, which have one length each
+abbrev pub first6G1 : List FieldEntry
+first6G1 = entryOf MessageType ∷ entryOf Sender ∷ entryOf Recipient ∷ []
 
--- a readable 6G1 is as long as they say
-pub length-6g1 : (m : List ℕ) → readable layout6G1 m ≡ true → length m ≡ 339
-unfolding layout6G1 fixed bytesIn
-length-6g1 m h = length-fixed fields6G1 m h
+abbrev pub last6G1 : List (ℕ × ℕ)
+last6G1 = (0x02, 11) ∷ (0x31, 8) ∷ (0x60, 6) ∷ (0x10, 5) ∷ (0x70, 11) ∷ (0x76, 240) ∷ (0x7f, 15) ∷ []
 
--- what is not as long is not readable
-pub other-length-6g1 : (m : List ℕ) → length m ≢ 339 → false ≡ readable layout6G1 m
-unfolding layout6G1 fixed bytesIn
-other-length-6g1 m h = other-length fields6G1 m h
+-- the last fields are tested first, as the part up to the end
+module _ (m : List ℕ) (k : ℕ) (e : k + 317 ≡ length m) where
+  parts : (readable (fixed last6G1) (drop k m) && readable first6G1 (take k m)) ≡ readable layout6G1 m
+  unfolding layout6G1 fixed bytesIn
+  parts = readable-split first6G1 last6G1 m k e
+
+  to-end : take (length m - k) (drop k m) ≡ drop k m
+  to-end = take-all (length m - k) (drop k m) (omega (arith, length-drop k m))
+
+  with-first : (b : Bool) → readable (fixed last6G1) (take (length m - k) (drop k m)) ≡ b → (b && readable first6G1 (take k m)) ≡ readable layout6G1 m
+  with-first b h = ap (λ (t : Bool). t && readable first6G1 (take k m)) (sym h ∙ ap (readable (fixed last6G1)) to-end) ∙ parts
+
+  pub both-parts : (r : Bool) → readable (fixed last6G1) (take (length m - k) (drop k m)) ≡ true → r ≡ readable first6G1 (take (k - 0) m) → r ≡ readable layout6G1 m
+  both-parts r h f = let z : k - 0 ≡ k = omega arith in f ∙ ap (λ (j : ℕ). readable first6G1 (take j m)) z ∙ with-first true h
+
+  pub no-last-part : readable (fixed last6G1) (take (length m - k) (drop k m)) ≡ false → false ≡ readable layout6G1 m
+  no-last-part h = with-first false h
 
 -- each entry stands in the layout at its field's place
 pub placed : (f : Field) → Stands layout6G1 (position f) (entryOf f)
@@ -51,9 +55,140 @@ placed Identifier = refl
 placed Bids = refl
 placed Name = refl
 
+-- one of the two lengths of an address, as the reader of addresses asks for it
+abbrev FiveOrFourteen : ℕ → Type 0
+FiveOrFourteen w = (w ≢ 5 → w ≡ 14) × (5 ≤ w) × (w ≤ 14)
+
+five-or-fourteen : (w : ℕ) → IsOneOf (5 ∷ 14 ∷ []) w → FiveOrFourteen w
+five-or-fourteen w o = ⊎-elim (λ e. ((λ n. absurd (n e)), omega arith, omega arith)) (λ e. ((λ n. e), omega arith, omega arith)) o
+
 module _ (m : List ℕ) (h : readable layout6G1 m ≡ true) where
   pub whole-field : (f : Field) → whole (position f) m ≡ true
   whole-field f = field-whole layout6G1 m h (position f) (entryOf f) (placed f)
 
   pub length-field : (f : Field) → IsOneOf (entryOf f .lengths) (length (bytesOf f m))
   length-field f = field-length layout6G1 m h (position f) (entryOf f) (placed f)
+
+  -- where sender and recipient stand, and how long they are
+  sender-at : offset 1 m ≡ 6
+  unfolding offset
+  sender-at = let n = head-length layout6G1 m h 0 (entryOf MessageType) (placed MessageType) in omega arith
+
+  sender-length : FiveOrFourteen (lengthAt (drop 6 m))
+  sender-length = five-or-fourteen (lengthAt (drop 6 m)) (rw sender-at at (head-length layout6G1 m h 1 (entryOf Sender) (placed Sender)))
+
+  recipient-at : offset 2 m ≡ 9 + lengthAt (drop 6 m)
+  recipient-at = offset-next 1 m ∙ rw sender-at (omega arith)
+
+  pub addresses-at : (offset 1 m ≡ 6) × (offset 2 m ≡ 9 + lengthAt (drop 6 m))
+  addresses-at = (sender-at, recipient-at)
+
+  recipient-length : FiveOrFourteen (lengthAt (drop (9 + lengthAt (drop 6 m)) m))
+  recipient-length = five-or-fourteen (lengthAt (drop (9 + lengthAt (drop 6 m)) m)) (rw recipient-at at (head-length layout6G1 m h 2 (entryOf Recipient) (placed Recipient)))
+
+  -- how long the message is
+  by-heads : 329 + lengthAt (drop 6 m) + lengthAt (drop (9 + lengthAt (drop 6 m)) m) ≡ length m
+  unfolding layout6G1 fixed bytesIn
+  by-heads =
+      let e = offset-from-end layout6G1 m 3 last6G1 h (omega arith) refl in
+      let n : offset 3 m ≡ 9 + lengthAt (drop 6 m) + 3 + lengthAt (drop (9 + lengthAt (drop 6 m)) m) = offset-next 2 m ∙ rw recipient-at refl in
+      omega arith
+
+  pub at-least-339 : 339 ≤ length m
+  at-least-339 = omega (arith, by-heads, sender-length .1, recipient-length .1)
+
+  pub at-most-357 : length m ≤ 357
+  at-most-357 = omega (arith, by-heads, sender-length .2, recipient-length .2)
+
+  sender-bytes : bytesOf Sender m ≡ take (lengthAt (drop 6 m)) (drop 9 m)
+  unfolding content
+  sender-bytes = rw (sender-at, drop-drop)
+
+  recipient-bytes : bytesOf Recipient m ≡ take (lengthAt (drop (9 + lengthAt (drop 6 m)) m)) (drop (12 + lengthAt (drop 6 m)) m)
+  unfolding content
+  recipient-bytes =
+      let i : 9 + lengthAt (drop 6 m) + 3 ≡ 12 + lengthAt (drop 6 m) = omega arith in
+      rw (recipient-at, drop-drop, i)
+
+  -- sender and recipient, as the code reads them
+  pub sender-read : (w : ℕ) → w ≡ lengthAt (drop 6 m) → (w ≢ 5 → w ≡ 14) × (5 ≤ w) × (w + 334 ≤ length m) × (take w (drop 9 m) ≡ bytesOf Sender m)
+  sender-read w e =
+      let s = sender-length in
+      let v = recipient-length .1 in
+      let l = by-heads in
+      (subst (λ (x : ℕ). x ≢ 5 → x ≡ 14) (sym e) (s .0), omega (arith, s .1), omega arith, ap (λ (x : ℕ). take x (drop 9 m)) e ∙ sym sender-bytes)
+
+  pub recipient-read : (w v : ℕ) → w ≡ lengthAt (drop 6 m) → v ≡ lengthAt (drop (9 + w) m) → (v ≢ 5 → v ≡ 14) × (5 ≤ v) × (329 + w + v ≡ length m) × (take v (drop (12 + w) m) ≡ bytesOf Recipient m)
+  recipient-read w v e f =
+      let g : v ≡ lengthAt (drop (9 + lengthAt (drop 6 m)) m) = f ∙ ap (λ (x : ℕ). lengthAt (drop (9 + x) m)) e in
+      let r = recipient-length in
+      let l = by-heads in
+      (subst (λ (x : ℕ). x ≢ 5 → x ≡ 14) (sym g) (r .0), omega (arith, r .1), omega arith, ap₂ (λ (x y : ℕ). take y (drop (12 + x) m)) e g ∙ sym recipient-bytes)
+
+  length-sender : length (bytesOf Sender m) ≡ lengthAt (drop 6 m)
+  length-sender =
+      let s = sender-read (lengthAt (drop 6 m)) refl in
+      ap length sender-bytes ∙ length-take-le (lengthAt (drop 6 m)) (drop 9 m) (omega (arith, s .2, length-drop 9 m))
+
+  length-recipient : length (bytesOf Recipient m) ≡ lengthAt (drop (9 + lengthAt (drop 6 m)) m)
+  length-recipient =
+      let w = lengthAt (drop 6 m) in
+      let r = recipient-read w (lengthAt (drop (9 + w) m)) refl refl in
+      ap length recipient-bytes ∙ length-take-le (lengthAt (drop (9 + w) m)) (drop (12 + w) m) (omega (arith, r .2, length-drop (12 + w) m))
+
+  pub length-6g1 : length m ≡ 329 + length (bytesOf Sender m) + length (bytesOf Recipient m)
+  length-6g1 = omega (arith, by-heads, length-sender, length-recipient)
+
+  pub sender-within : (5 ≤ length (bytesOf Sender m)) × (length (bytesOf Sender m) ≤ 14)
+  sender-within = (omega (arith, length-sender, sender-length .1), omega (arith, length-sender, sender-length .2))
+
+  -- in 339 bytes both are short
+  pub short-addresses : length m ≡ 339 → (bytesOf Sender m ≡ take 5 (drop 9 m)) × (bytesOf Recipient m ≡ take 5 (drop 17 m))
+  short-addresses e =
+      let l = by-heads in
+      let w : lengthAt (drop 6 m) ≡ 5 = omega (arith, sender-length .1, recipient-length .1) in
+      let v : lengthAt (drop (9 + lengthAt (drop 6 m)) m) ≡ 5 = omega (arith, sender-length .1, recipient-length .1) in
+      (sender-bytes ∙ ap (λ (x : ℕ). take x (drop 9 m)) w, recipient-bytes ∙ ap₂ (λ (x y : ℕ). take y (drop (12 + x) m)) w v)
+
+  -- the code that both forms of a sender start with
+  pub code-bytes : take 5 (drop 9 m) ≡ take 5 (bytesOf Sender m)
+  code-bytes = sym (ap (take 5) sender-bytes ∙ take-take 5 (lengthAt (drop 6 m)) (drop 9 m) (sender-length .1))
+
+  -- the last 339 bytes have every field but the first three at one index
+  last-field : (k : ℕ) (f : ℕ × ℕ) (fs : List (ℕ × ℕ)) (from : ℕ) → k ≤ length layout6G1 → drop k layout6G1 ≡ fixed (f ∷ fs) → 3 ≤ from → from + bytesIn (f ∷ fs) ≡ 342 → content k m ≡ take (f .1) (drop from (drop (length m - 339) m))
+  last-field k f fs from l e t q =
+      let n = at-least-339 in
+      let at = length m - 339 + from - 3 in
+      let i : at + 3 ≡ length m - 339 + from = omega arith in
+      content-from-end layout6G1 m k f fs at h l e (omega arith) ∙ ap (λ (j : ℕ). take (f .1) (drop j m)) i ∙ sym (ap (take (f .1)) (drop-drop from (length m - 339) m))
+
+  pub last-bytes : (f : Field) → isLast f ≡ true → bytesOf f m ≡ take (width f) (drop (start f) (drop (length m - 339) m))
+  unfolding layout6G1 fixed bytesIn
+  last-bytes MessageType e = absurd (false≢true e)
+  last-bytes Sender e = absurd (false≢true e)
+  last-bytes Recipient e = absurd (false≢true e)
+  last-bytes Cro e = last-field 3 (0x02, 11) (drop 1 last6G1) 25 (omega arith) refl (omega arith) refl
+  last-bytes Date e = last-field 4 (0x31, 8) (drop 2 last6G1) 39 (omega arith) refl (omega arith) refl
+  last-bytes Time e = last-field 5 (0x60, 6) (drop 3 last6G1) 50 (omega arith) refl (omega arith) refl
+  last-bytes Check e = last-field 6 (0x10, 5) (drop 4 last6G1) 59 (omega arith) refl (omega arith) refl
+  last-bytes Identifier e = last-field 7 (0x70, 11) (drop 5 last6G1) 67 (omega arith) refl (omega arith) refl
+  last-bytes Bids e = last-field 8 (0x76, 240) (drop 6 last6G1) 81 (omega arith) refl (omega arith) refl
+  last-bytes Name e = last-field 9 (0x7f, 15) [] 324 (omega arith) refl (omega arith) refl
+
+  -- and the code has them as a part up to the end
+  last-part : take (length m - (length m - 339)) (drop (length m - 339) m) ≡ drop (length m - 339) m
+  last-part = take-all (length m - (length m - 339)) (drop (length m - 339) m) (omega (arith, at-least-339, length-drop (length m - 339) m))
+
+  pub length-last : length (take (length m - (length m - 339)) (drop (length m - 339) m)) ≡ 339
+  length-last = ap length last-part ∙ omega (arith, at-least-339, length-drop (length m - 339) m)
+
+  pub last-read : (f : Field) → isLast f ≡ true → take (width f) (drop (start f) (take (length m - (length m - 339)) (drop (length m - 339) m))) ≡ bytesOf f m
+  last-read f e = ap (λ (x : List ℕ). take (width f) (drop (start f) x)) last-part ∙ sym (last-bytes f e)
+
+-- what is under 339 bytes is not readable
+pub short-6g1 : (m : List ℕ) → length m < 339 → false ≡ readable layout6G1 m
+short-6g1 m l = go (readable layout6G1 m) refl
+  where
+    go : (t : Bool) → readable layout6G1 m ≡ t → false ≡ t
+    go true e = absurd (let z = at-least-339 m e in omega arith)
+    go false e = refl

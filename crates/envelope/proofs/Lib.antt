@@ -1,5 +1,4 @@
 pub mod Fields6G1
-pub mod Parts
 pub mod Writing
 pub mod ReturnTrip
 pub mod Promise

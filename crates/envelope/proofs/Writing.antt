@@ -14,6 +14,9 @@ use Rattle.digits.specs.Decimal.{allDigits, digits}
 use Rattle.digits.proofs.Writing.{length-digits, digits-last}
 use Rattle.layout.specs.Fields.{head, field, encoded}
 use Rattle.layout.proofs.ReturnTrip.{sizes, length-encoded}
+use Rattle.addresses.specs.declared.Address.{Address}
+use Rattle.addresses.specs.Addresses.{addressText, addressLength}
+use Rattle.addresses.proofs.ReturnTrip.{length-address}
 use Rattle.places.specs.declared.Rate.{Rate}
 use Rattle.places.specs.declared.Amount.{Amount}
 use Rattle.places.specs.Bids.{slash, placesText}
@@ -45,6 +48,11 @@ short-field d at tag w n h l m eight first =
       past = eight .past ∙ omega arith;
     }
 
+-- a head and an address are a field
+pub address-field : (tag : ℕ) (a : Address) → head tag (addressLength a) ++ addressText a ≡ field tag (addressText a)
+unfolding field
+address-field tag a = rw (length-address a)
+
 -- a head and ten places are a field
 pub bids-field : (tag : ℕ) (rates : List Rate) (amounts : List Amount) → length rates ≡ 10 → length amounts ≡ 10 → head tag 240 ++ placesText rates amounts ≡ field tag (placesText rates amounts)
 unfolding field
@@ -55,13 +63,13 @@ pub both-parts : (a : Application) (kind identifier name : List ℕ) → firstFi
 unfolding firstFields lastFields written encoded layout6G1
 both-parts a kind identifier name = simp (append-assoc, append-nil)
 
--- a written 6G1 has 339 bytes
+-- how long a written 6G1 is
 module _ (a : Application) (kind identifier name : List ℕ) (lk : length kind ≡ 3) (li : length identifier ≡ 11) (ln : length name ≡ 15) (lr : length (a .rates) ≡ 10) (la : length (a .amounts) ≡ 10) where
-  pub length-written : length (written a kind identifier name) ≡ 339
+  pub length-written : length (written a kind identifier name) ≡ 329 + addressLength (a .sender) + addressLength (a .recipient)
   unfolding written layout6G1 sizes
   length-written =
       length-encoded layout6G1 (texts a kind identifier name) refl
-      ∙ simp (length-digits, length-places 10 (a .rates) (a .amounts) lr la, lk, li, ln)
+      ∙ simp (length-digits, length-address, length-places 10 (a .rates) (a .amounts) lr la, lk, li, ln) (omega arith)
 
 -- the lengths of texts that fit
 module _ (kind identifier name : List ℕ) (h : textsFit kind identifier name ≡ true) where

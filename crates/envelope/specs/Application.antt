@@ -8,6 +8,8 @@ use lib.ListN.{length, take, drop, getD, replicate}
 use Rattle.digits.specs.declared.Digits.the-variants.{None}
 use Rattle.digits.specs.Decimal.{allDigits, digitsOf, digits}
 use Rattle.layout.specs.Fields.{FieldEntry, readable, content, encoded}
+use Rattle.addresses.specs.declared.Address.the-variants.{Malformed}
+use Rattle.addresses.specs.Addresses.{addressOf, addressText, addressFits}
 use Rattle.places.specs.Bids.{slash, malformed, columns, placesOf, placesText, fits, placesFit}
 use Rattle.envelope.specs.Refusals.{firstHolding, unlessRefused}
 use Rattle.envelope.specs.declared.application.Field.{Field}
@@ -23,12 +25,17 @@ use Rattle.envelope.specs.declared.application.WriteAnswer.the-variants.
 abbrev pub one : ℕ → ℕ → FieldEntry
 one tag n = record { tag = tag; lengths = n ∷ [] }
 
+-- and of one that has one of two
+abbrev pub either : ℕ → ℕ → ℕ → FieldEntry
+either tag short long = record { tag = tag; lengths = short ∷ long ∷ [] }
+
 -- '6G1: 01 type (tag 01, 3); 040 sender (04, 5); 050 recipient (05, 5); 020 CRO (02, 11); D31 reference date (31, 8);
--- 601 reference time (60, 6); 010 check digit (10, 5); 6G0 operation identifier (70, 11); 6G6 bids (76, 240); 6GG contact name (7F, 15)'
+-- 601 reference time (60, 6); 010 check digit (10, 5); 6G0 operation identifier (70, 11); 6G6 bids (76, 240); 6GG contact name (7F, 15)';
+-- 'Fields 040 and 050 of a 6G1 may each have length 5 or 14'
 abbrev pub entryOf : Field → FieldEntry
 entryOf MessageType = one 0x01 3
-entryOf Sender = one 0x04 5
-entryOf Recipient = one 0x05 5
+entryOf Sender = either 0x04 5 14
+entryOf Recipient = either 0x05 5 14
 entryOf Cro = one 0x02 11
 entryOf Date = one 0x31 8
 entryOf Time = one 0x60 6
@@ -72,12 +79,13 @@ bytesOf f m = content (position f) m
 unfoldable pub fieldBytes : Field → List ℕ → List ℕ
 fieldBytes f m = cond (readable layout6G1 m) (bytesOf f m) []
 
--- 'and, for a digit field or a place, its number or numbers, or that it has none'
+-- 'and, for a digit field or a place, its number or numbers, or that it has none'; the long form of an address 'reads as these, or as
+-- having none'
 unfoldable pub fieldsOf : List ℕ → Fields
 fieldsOf m =
     record {
-      sender = digitsOf (bytesOf Sender m);
-      recipient = digitsOf (bytesOf Recipient m);
+      sender = addressOf (bytesOf Sender m);
+      recipient = addressOf (bytesOf Recipient m);
       cro = digitsOf (bytesOf Cro m);
       date = digitsOf (bytesOf Date m);
       time = digitsOf (bytesOf Time m);
@@ -88,7 +96,7 @@ fieldsOf m =
 -- what a refused reading gives: no number at all
 abbrev pub noFields : Fields
 noFields =
-    record { sender = None; recipient = None; cro = None; date = None; time = None; check = None; places = columns (replicate 10 malformed) }
+    record { sender = Malformed; recipient = Malformed; cro = None; date = None; time = None; check = None; places = columns (replicate 10 malformed) }
 
 -- '12. The message is not readable as a 6G1 envelope.'
 abbrev pub unreadable : List ℕ → Bool
@@ -115,7 +123,7 @@ isIdentifier s =
 -- '17. A number is too wide for its field or a text is not of its length or the identifier malformed.'
 unfoldable pub numbersFit : Application → Bool
 numbersFit a =
-    fits 5 (a .sender) && fits 5 (a .recipient) && fits 11 (a .cro) && fits 8 (a .date) && fits 6 (a .time) && fits 5 (a .check) && placesFit (a .rates) (a .amounts)
+    addressFits (a .sender) && addressFits (a .recipient) && fits 11 (a .cro) && fits 8 (a .date) && fits 6 (a .time) && fits 5 (a .check) && placesFit (a .rates) (a .amounts)
 
 unfoldable pub textsFit : List ℕ → List ℕ → List ℕ → Bool
 textsFit kind identifier name = eqb (length kind) 3 && isIdentifier identifier && eqb (length name) 15
@@ -123,16 +131,13 @@ textsFit kind identifier name = eqb (length kind) 3 && isIdentifier identifier &
 abbrev pub unfit : Application → List ℕ → List ℕ → List ℕ → Bool
 unfit a kind identifier name = not (numbersFit a && textsFit kind identifier name)
 
--- '18. The output space is under 339 bytes.'
-abbrev pub noRoom : List ℕ → Bool
-noRoom space = ltb (length space) 339
-
--- 'Writing a 6G1 takes numbers for the digit fields (bids: ten places), text for the rest (type, identifier, name)'
+-- 'Writing a 6G1 takes numbers for the digit fields (bids: ten places), text for the rest (type, identifier, name)'; 'The long form is
+-- written from two numbers and a two-character text'
 abbrev pub texts : Application → List ℕ → List ℕ → List ℕ → List (List ℕ)
 texts a kind identifier name =
     kind
-    ∷ digits 5 (a .sender)
-    ∷ digits 5 (a .recipient)
+    ∷ addressText (a .sender)
+    ∷ addressText (a .recipient)
     ∷ digits 11 (a .cro)
     ∷ digits 8 (a .date)
     ∷ digits 6 (a .time)
@@ -145,14 +150,18 @@ texts a kind identifier name =
 unfoldable pub written : Application → List ℕ → List ℕ → List ℕ → List ℕ
 written a kind identifier name = encoded layout6G1 (texts a kind identifier name)
 
+-- '18', for which 'writing needs the length of the message it writes'
+abbrev pub noRoom : Application → List ℕ → List ℕ → List ℕ → List ℕ → Bool
+noRoom a kind identifier name space = ltb (length space) (length (written a kind identifier name))
+
 -- 'writing [checks] 17, 18'; 'Bytes past .. a written 6G1 stay'
 abbrev pub writingRefused : Application → List ℕ → List ℕ → List ℕ → List ℕ → Option ℕ
-writingRefused a kind identifier name space = firstHolding ((17, unfit a kind identifier name) ∷ (18, noRoom space) ∷ [])
+writingRefused a kind identifier name space = firstHolding ((17, unfit a kind identifier name) ∷ (18, noRoom a kind identifier name space) ∷ [])
 
 unfoldable pub write : Application → List ℕ → List ℕ → List ℕ → List ℕ → Option ℕ × List ℕ
 write a kind identifier name space = (
   writingRefused a kind identifier name space,
-  unlessRefused (writingRefused a kind identifier name space) space (written a kind identifier name ++ drop 339 space),
+  unlessRefused (writingRefused a kind identifier name space) space (written a kind identifier name ++ drop (length (written a kind identifier name)) space),
 )
 
 abbrev pub writeRefusal : WriteAnswer → Option ℕ

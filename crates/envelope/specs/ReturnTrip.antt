@@ -7,18 +7,19 @@ use Prim.Native.Nat.{ℕ, _≤_}
 use lib.ListN.{length, take, drop, replicate}
 use Rattle.digits.specs.declared.Digits.the-variants.{Number}
 use Rattle.digits.specs.Decimal.{isNumber, numberIn}
+use Rattle.addresses.specs.Addresses.{isAddress}
 use Rattle.places.specs.Bids.{allFormed}
 use Rattle.envelope.specs.declared.application.Field.the-variants.{MessageType, Identifier, Name}
 use Rattle.envelope.specs.declared.application.Fields.{Fields}
 use Rattle.envelope.specs.declared.application.Application.{Application}
-use Rattle.envelope.specs.Application.{fieldBytes, isIdentifier, reading, write}
+use Rattle.envelope.specs.Application.{fieldBytes, isIdentifier, reading, written, write}
 
--- the fields that a 6G1 written from an application has: each number as given, each place well formed
+-- the fields that a 6G1 written from an application has: each address and number as given, each place well formed
 abbrev pub fieldsFrom : Application → Fields
 fieldsFrom a =
     record {
-      sender = Number (a .sender);
-      recipient = Number (a .recipient);
+      sender = a .sender;
+      recipient = a .recipient;
       cro = Number (a .cro);
       date = Number (a .date);
       time = Number (a .time);
@@ -36,16 +37,17 @@ WrittenReadsBack =
     (a : Application) (kind identifier name space after : List ℕ)
     → TenPlaces a
     → write a kind identifier name space ≡ (none, after)
-    → (reading (take 339 after) ≡ (none, fieldsFrom a))
-    × (fieldBytes MessageType (take 339 after) ≡ kind)
-    × (fieldBytes Identifier (take 339 after) ≡ identifier)
-    × (fieldBytes Name (take 339 after) ≡ name)
+    → (reading (take (length (written a kind identifier name)) after) ≡ (none, fieldsFrom a))
+    × (fieldBytes MessageType (take (length (written a kind identifier name)) after) ≡ kind)
+    × (fieldBytes Identifier (take (length (written a kind identifier name)) after) ≡ identifier)
+    × (fieldBytes Name (take (length (written a kind identifier name)) after) ≡ name)
 
--- 'readable messages whose digit fields are digits and identifier and places well formed'
+-- 'readable messages whose digit fields are digits and identifier and places well formed'; 'Reading back holds for both forms, the
+-- long one with its slashes and digits in place'
 unfoldable pub allWellFormed : Fields → List ℕ → Bool
 allWellFormed f identifier =
-    isNumber (f .sender)
-    && isNumber (f .recipient)
+    isAddress (f .sender)
+    && isAddress (f .recipient)
     && isNumber (f .cro)
     && isNumber (f .date)
     && isNumber (f .time)
@@ -57,8 +59,8 @@ allWellFormed f identifier =
 abbrev pub applicationFrom : Fields → Application
 applicationFrom f =
     record {
-      sender = numberIn (f .sender);
-      recipient = numberIn (f .recipient);
+      sender = f .sender;
+      recipient = f .recipient;
       cro = numberIn (f .cro);
       date = numberIn (f .date);
       time = numberIn (f .time);
@@ -73,5 +75,5 @@ ReadableWritesBack =
     (m space : List ℕ) (f : Fields)
     → reading m ≡ (none, f)
     → allWellFormed f (fieldBytes Identifier m) ≡ true
-    → 339 ≤ length space
-    → write (applicationFrom f) (fieldBytes MessageType m) (fieldBytes Identifier m) (fieldBytes Name m) space ≡ (none, m ++ drop 339 space)
+    → length m ≤ length space
+    → write (applicationFrom f) (fieldBytes MessageType m) (fieldBytes Identifier m) (fieldBytes Name m) space ≡ (none, m ++ drop (length m) space)

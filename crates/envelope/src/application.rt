@@ -1,6 +1,11 @@
 // A 6G1, the application: read from bytes and written from numbers and texts.
-use crate::internal::contents_if;
-use crate::internal::position_of;
+use crate::internal::bytes_in;
+use crate::internal::recipient_of;
+use crate::internal::sender_of;
+use addresses::Address;
+use addresses::address_fits;
+use addresses::address_length;
+use addresses::internal::put_branch;
 use digits::Digits;
 use digits::all_digits;
 use layout::internal::put_field;
@@ -22,6 +27,7 @@ ghost use lib.ListN.{length};
 ghost use Rattle.output.specs.Output.{Wrote};
 ghost use Rattle.digits.specs.Decimal.{digits};
 ghost use Rattle.layout.specs.Fields.{field, readable};
+ghost use Rattle.addresses.specs.Addresses.{addressText, addressLength};
 ghost use Rattle.places.specs.Bids.{placesText};
 ghost use Rattle.envelope.specs.Application.{layout6G1, fieldBytes, fieldsOf, noFields, readRefusal, reading, isIdentifier, numbersFit, textsFit, writeRefusal, write};
 ghost use Rattle.envelope.specs.Writing.{firstFields, lastFields};
@@ -40,10 +46,10 @@ pub enum Field {
     Name,
 }
 
-// The numbers of a 6G1: of each digit field, and of each of the ten places.
+// What a 6G1 holds: two addresses, the number of each digit field, and the numbers of each of the ten places.
 pub struct Fields {
-    pub sender: Digits,
-    pub recipient: Digits,
+    pub sender: Address,
+    pub recipient: Address,
     pub cro: Digits,
     pub date: Digits,
     pub time: Digits,
@@ -61,10 +67,10 @@ pub struct Reading {
     pub fields: Fields,
 }
 
-// The numbers that a 6G1 is written from.
+// The addresses and numbers that a 6G1 is written from.
 pub struct Application {
-    pub sender: u64,
-    pub recipient: u64,
+    pub sender: Address,
+    pub recipient: Address,
     pub cro: u64,
     pub date: u64,
     pub time: u64,
@@ -79,38 +85,49 @@ pub enum WriteAnswer {
     NoRoom,
 }
 
-// Whether m has the fields of a 6G1, in order, with their lengths, and nothing after them. Its length is tested first, so that the compiler knows it in every other test.
+// Whether m has the fields of a 6G1, in order, with their lengths, and nothing after them. From CRO on
+// each field has one length, so that these stand at fixed distances from the end and are tested there.
+// No 6G1 is under 339 bytes; this is tested first, so that the compiler knows it in every other test.
 pub fn is_6g1(m: &[u8]) -> bool
     ensures { λ r. ⌜ r ≡ readable layout6G1 (now (m .entry)) ⌝ }
 {
-    if m.len() != 339 {
+    let n = m.len();
+    if n < 339 {
         return false;
     }
-    layout::readable(
-        b"\x01\x03\x03\x04\x05\x05\x05\x05\x05\x02\x0b\x0b\x31\x08\x08\x60\x06\x06\x10\x05\x05\x70\x0b\x0b\x76\xf0\xf0\x7f\x0f\x0f",
-        m,
-    )
+    let k = n - 317;
+    if layout::readable(
+        b"\x02\x0b\x0b\x31\x08\x08\x60\x06\x06\x10\x05\x05\x70\x0b\x0b\x76\xf0\xf0\x7f\x0f\x0f",
+        &m[k..n],
+    ) {
+        layout::readable(b"\x01\x03\x03\x04\x05\x0e\x05\x05\x0e", &m[0..k])
+    } else {
+        false
+    }
 }
 
 // The bytes of a field, or none where m is no 6G1.
 pub fn bytes(m: &[u8], f: Field) -> &[u8]
     ensures { λ r. ⌜ now r ≡ fieldBytes f (now (m .entry)) ⌝ }
 {
-    contents_if(is_6g1(m), m, position_of(f))
+    if is_6g1(m) { bytes_in(m, f) } else { &m[0..0] }
 }
 
-// The numbers of a readable 6G1, each read from where the layout puts its field.
+// The addresses and numbers of a readable 6G1. Its last 339 bytes have every field but the first three at one index.
 fn fields_of(m: &[u8]) -> Fields
     requires { ⌜ readable layout6G1 (now m) ≡ true ⌝ }
     ensures { λ r. ⌜ r ≡ fieldsOf (now (m .entry)) ⌝ }
 {
-    let sender = number_at(m, 9, 14);
-    let recipient = number_at(m, 17, 22);
-    let cro = long_number_at(m, 25, 36);
-    let date = number_at(m, 39, 47);
-    let time = number_at(m, 50, 56);
-    let check = number_at(m, 59, 64);
-    let places = read_places(&m[81..321]);
+    let sender = sender_of(m);
+    let recipient = recipient_of(m);
+    let n = m.len();
+    let k = n - 339;
+    let t = &m[k..n];
+    let cro = long_number_at(t, 25, 36);
+    let date = number_at(t, 39, 47);
+    let time = number_at(t, 50, 56);
+    let check = number_at(t, 59, 64);
+    let places = read_places(&t[81..321]);
     Fields {
         sender,
         recipient,
@@ -127,8 +144,8 @@ pub fn no_fields() -> Fields
     ensures { λ r. ⌜ r ≡ noFields ⌝ }
 {
     Fields {
-        sender: Digits::None,
-        recipient: Digits::None,
+        sender: Address::Malformed,
+        recipient: Address::Malformed,
         cro: Digits::None,
         date: Digits::None,
         time: Digits::None,
@@ -179,8 +196,10 @@ fn numbers_fit(a: Application) -> bool
 {
     let rates = a.rates;
     let amounts = a.amounts;
-    (a.sender < 100000)
-        & (a.recipient < 100000)
+    let sender = a.sender;
+    let recipient = a.recipient;
+    address_fits(sender)
+        & address_fits(recipient)
         & (a.cro < 100000000000)
         & (a.date < 100000000)
         & (a.time < 1000000)
@@ -218,6 +237,21 @@ fn put_number(space: &mut [u8], at: usize, tag: u8, w: usize, n: u64) -> usize
     put_digits(space, start, w, n)
 }
 
+// Writes the field of an address.
+fn put_address(space: &mut [u8], at: usize, tag: u8, a: Address) -> usize
+    requires { ⌜ at + 3 + addressLength a ≤ length (now space) ⌝ }
+    ensures { λ r. ⌜ Wrote (now (space .entry)) at (field tag (addressText a)) (now (space .exit)) r × (r ≡ at + 3 + addressLength a) ⌝ }
+{
+    match a {
+        Address::Malformed => put_head(space, at, tag, 0),
+        Address::Code(code) => put_number(space, at, tag, 5, code),
+        Address::Branch(code, branch, first, second) => {
+            let start = put_head(space, at, tag, 14);
+            put_branch(space, start, code, branch, first, second)
+        }
+    }
+}
+
 // Writes the field of the ten places.
 fn put_bids(space: &mut [u8], at: usize, rates: [Rate; 10], amounts: [Amount; 10]) -> usize
     requires { ⌜ at + 243 ≤ length (now space) ⌝ }
@@ -229,12 +263,14 @@ fn put_bids(space: &mut [u8], at: usize, rates: [Rate; 10], amounts: [Amount; 10
 
 // Writes type, sender, recipient, CRO and reference date.
 fn put_first(space: &mut [u8], a: Application, kind: &[u8]) -> usize
-    requires { ⌜ (length (now kind) ≡ 3) × (47 ≤ length (now space)) ⌝ }
-    ensures { λ r. ⌜ Wrote (now (space .entry)) 0 (firstFields a (now (kind .entry))) (now (space .exit)) r × (r ≡ 47) ⌝ }
+    requires { ⌜ (length (now kind) ≡ 3) × (37 + addressLength (a .sender) + addressLength (a .recipient) ≤ length (now space)) ⌝ }
+    ensures { λ r. ⌜ Wrote (now (space .entry)) 0 (firstFields a (now (kind .entry))) (now (space .exit)) r × (r ≡ 37 + addressLength (a .sender) + addressLength (a .recipient)) ⌝ }
 {
+    let from = a.sender;
+    let to = a.recipient;
     let sender = put_field(space, 0, 0x01, kind);
-    let recipient = put_number(space, sender, 0x04, 5, a.sender);
-    let cro = put_number(space, recipient, 0x05, 5, a.recipient);
+    let recipient = put_address(space, sender, 0x04, from);
+    let cro = put_address(space, recipient, 0x05, to);
     let date = put_number(space, cro, 0x02, 11, a.cro);
     put_number(space, date, 0x31, 8, a.date)
 }
@@ -266,7 +302,9 @@ pub fn write(
     if !(numbers_fit(a) & texts_fit(kind, identifier, name)) {
         return WriteAnswer::Unfit;
     }
-    if space.len() < 339 {
+    let from = a.sender;
+    let to = a.recipient;
+    if space.len() < 329 + address_length(from) + address_length(to) {
         return WriteAnswer::NoRoom;
     }
     let half = put_first(space, a, kind);

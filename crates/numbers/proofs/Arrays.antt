@@ -7,12 +7,16 @@ use mir.Val.{boolByte}
 use native.Mathlib.Nat.{not-suc-le-zero, le-of-suc-le-suc}
 use native.Mathlib.Numerals.{add-one}
 use native.Mathlib.Omega.{arith}
-use lib.ListN.{length, take, drop, getD, set, drop-of-length-le}
+use lib.ListN.{length, take, drop, getD, set, length-append, drop-of-length-le}
 use lib.Seq.{take-nil, drop-nil}
 use Rattle.output.specs.Output.{Wrote}
 use Rattle.output.proofs.Output.{then, from-start}
-use Rattle.numbers.specs.ByNumber.{flag}
-use Rattle.numbers.specs.Numbers.{digitNumbers, placeNumbers, fieldsNumbers, placesNumbers, textStarts, numbersOf}
+use Rattle.addresses.specs.declared.Address.{Address}
+use Rattle.addresses.specs.declared.Address.the-variants.{Malformed, Code, Branch}
+use Rattle.envelope.specs.Application.{reading}
+use Rattle.numbers.specs.ByNumber.{flag, startOf}
+use Rattle.numbers.specs.Numbers.{digitNumbers, placeNumbers, fieldsNumbers, placesNumbers, textStarts, addressNumbers, addressesNumbers, numbersOf}
+use Rattle.numbers.specs.Codes.{codesNumbers, lastNumbers}
 
 -- a bool as a number
 pub flag-is : (b : Bool) → boolByte b ≡ flag b
@@ -33,14 +37,28 @@ room-suc (x ∷ all) (y ∷ array) (suc k) h = ap (λ (l : List ℕ). x ∷ l) (
 pub room-more : (all array now : List ℕ) (k : ℕ) → k < length all → now ≡ take (length array) (take k all) ++ drop k array → set now k (getD all k 0) ≡ take (length array) (take (k + 1) all) ++ drop (k + 1) array
 room-more all array now k h e = rw (e, add-one) (room-suc all array k h)
 
--- they are 45
-pub length-numbers : (m : List ℕ) → length (numbersOf m) ≡ 45
-unfolding numbersOf fieldsNumbers digitNumbers placesNumbers placeNumbers textStarts
-length-numbers m = refl
+three : (a : Address) (text : ℕ) → length (addressNumbers a text) ≡ 3
+unfolding addressNumbers
+three Malformed text = refl
+three (Code n) text = refl
+three (Branch c b x y) text = refl
+
+-- they are 51
+pub length-numbers : (m : List ℕ) → length (numbersOf m) ≡ 51
+unfolding numbersOf fieldsNumbers digitNumbers placesNumbers placeNumbers textStarts addressesNumbers
+length-numbers m =
+    let s = three (reading m .1 .sender) (startOf 1 m + 12) in
+    let r = three (reading m .1 .recipient) (startOf 2 m + 12) in
+    simp (length-append, s, r)
+
+-- the digit fields in the two parts in which they are written
+pub both-parts : (m : List ℕ) → codesNumbers m ++ lastNumbers m ≡ fieldsNumbers m
+unfolding codesNumbers lastNumbers fieldsNumbers digitNumbers
+both-parts m = refl
 
 -- an array as long as what is written to it holds nothing else
 pub written-only : (s d : List ℕ) {after : List ℕ} {end : ℕ} → length d ≡ length s → Wrote d 0 s after end → after ≡ s
 written-only s d l w = w .bytes ∙ from-start d s ∙ rw (drop-of-length-le d {i = length s} (omega arith)) (append-nil s)
 
-pub numbers-only : (m d : List ℕ) {after : List ℕ} {end : ℕ} → length d ≡ 45 → Wrote d 0 (numbersOf m) after end → after ≡ numbersOf m
+pub numbers-only : (m d : List ℕ) {after : List ℕ} {end : ℕ} → length d ≡ 51 → Wrote d 0 (numbersOf m) after end → after ≡ numbersOf m
 numbers-only m d l w = written-only (numbersOf m) d (l ∙ sym (length-numbers m)) w

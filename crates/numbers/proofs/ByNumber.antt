@@ -1,5 +1,6 @@
 -- Laws of the fields and places of a 6G1 by their numbers. Assumes nothing.
 use mathlib.Core.Path.{_≡_, refl, sym, ap, _∙_}
+use mathlib.Core.Logic.{_≢_}
 use mathlib.Core.Bool.{true, false, _&&_, false≢true}
 use mathlib.Core.List.{List, map}
 use Prim.Native.Nat.{ℕ, zero, suc, _*_, _≤_, _<_}
@@ -12,15 +13,16 @@ use Rattle.digits.specs.declared.Digits.the-variants.{None}
 use Rattle.digits.specs.Decimal.{digitsOf}
 use Rattle.layout.specs.Fields.{readable, content, whole}
 use Rattle.layout.proofs.ReturnTrip.{whole-of}
+use Rattle.addresses.specs.Addresses.{addressOf}
 use Rattle.places.specs.declared.Place.{Place}
 use Rattle.places.specs.Bids.{malformed, placeOf, placesIn, columns, placesOf}
 use Rattle.places.proofs.Reading.{place-at}
 use Rattle.envelope.specs.declared.application.Field.the-variants.{Sender, Recipient, Cro, Date, Time, Check}
 use Rattle.envelope.specs.declared.application.Fields.{Fields}
 use Rattle.envelope.specs.Refusals.{firstHolding}
-use Rattle.envelope.specs.Application.{layout6G1, fieldsOf, noFields, reading}
+use Rattle.envelope.specs.Application.{layout6G1, bytesOf, fieldsOf, noFields, reading}
 use Rattle.envelope.proofs.Promise.{whole-field, length-field}
-use Rattle.numbers.specs.ByNumber.{hasField, numbered, fieldDigits, placeNumbered}
+use Rattle.numbers.specs.ByNumber.{hasField, codeDigits, numbered, fieldDigits, placeNumbered}
 
 -- a field that is there is whole
 pub whole-there : (k : ℕ) (m : List ℕ) → hasField k m ≡ true → whole k m ≡ true
@@ -37,27 +39,27 @@ unfolding reading firstHolding
 fields-none m h = rw h
 
 -- the digit fields by their numbers
-digit-number : (k : ℕ) (m : List ℕ) → 1 ≤ k → k ≤ 6 → numbered k (fieldsOf m) ≡ digitsOf (content k m)
+digit-number : (k : ℕ) (m : List ℕ) → 3 ≤ k → k ≤ 6 → numbered k (fieldsOf m) ≡ digitsOf (content k m)
 unfolding numbered fieldsOf
 digit-number zero m h l = absurd (let z : ⊥ = omega arith in z)
-digit-number (suc zero) m h l = refl
-digit-number (suc (suc zero)) m h l = refl
+digit-number (suc zero) m h l = absurd (let z : ⊥ = omega arith in z)
+digit-number (suc (suc zero)) m h l = absurd (let z : ⊥ = omega arith in z)
 digit-number (suc (suc (suc zero))) m h l = refl
 digit-number (suc (suc (suc (suc zero)))) m h l = refl
 digit-number (suc (suc (suc (suc (suc zero))))) m h l = refl
 digit-number (suc (suc (suc (suc (suc (suc zero)))))) m h l = refl
 digit-number (suc (suc (suc (suc (suc (suc (suc k))))))) m h l = absurd (let z : ⊥ = omega arith in z)
 
-no-digit-number : (k : ℕ) (f : Fields) → leb 1 k && leb k 6 ≡ false → numbered k f ≡ None
+no-digit-number : (k : ℕ) (f : Fields) → k ≢ 1 → k ≢ 2 → leb 3 k && leb k 6 ≡ false → numbered k f ≡ None
 unfolding numbered
-no-digit-number zero f h = refl
-no-digit-number (suc zero) f h = absurd (false≢true (sym h))
-no-digit-number (suc (suc zero)) f h = absurd (false≢true (sym h))
-no-digit-number (suc (suc (suc zero))) f h = absurd (false≢true (sym h))
-no-digit-number (suc (suc (suc (suc zero)))) f h = absurd (false≢true (sym h))
-no-digit-number (suc (suc (suc (suc (suc zero))))) f h = absurd (false≢true (sym h))
-no-digit-number (suc (suc (suc (suc (suc (suc zero)))))) f h = absurd (false≢true (sym h))
-no-digit-number (suc (suc (suc (suc (suc (suc (suc k))))))) f h = refl
+no-digit-number zero f a b h = refl
+no-digit-number (suc zero) f a b h = absurd (a refl)
+no-digit-number (suc (suc zero)) f a b h = absurd (b refl)
+no-digit-number (suc (suc (suc zero))) f a b h = absurd (false≢true (sym h))
+no-digit-number (suc (suc (suc (suc zero)))) f a b h = absurd (false≢true (sym h))
+no-digit-number (suc (suc (suc (suc (suc zero))))) f a b h = absurd (false≢true (sym h))
+no-digit-number (suc (suc (suc (suc (suc (suc zero)))))) f a b h = absurd (false≢true (sym h))
+no-digit-number (suc (suc (suc (suc (suc (suc (suc k))))))) f a b h = refl
 
 nothing-numbered : (k : ℕ) → numbered k noFields ≡ None
 unfolding numbered
@@ -70,24 +72,44 @@ nothing-numbered (suc (suc (suc (suc (suc zero))))) = refl
 nothing-numbered (suc (suc (suc (suc (suc (suc zero)))))) = refl
 nothing-numbered (suc (suc (suc (suc (suc (suc (suc k))))))) = refl
 
+-- the addresses of a reading
+module _ (m : List ℕ) (h : readable layout6G1 m ≡ true) where
+  pub sender-there : reading m .1 .sender ≡ addressOf (bytesOf Sender m)
+  unfolding fieldsOf
+  sender-there = ap (λ (f : Fields). f .sender) (fields-read m h)
+
+  pub recipient-there : reading m .1 .recipient ≡ addressOf (bytesOf Recipient m)
+  unfolding fieldsOf
+  recipient-there = ap (λ (f : Fields). f .recipient) (fields-read m h)
+
+  -- their codes
+  pub sender-code : (k : ℕ) → k ≡ 1 → fieldDigits k m ≡ codeDigits (addressOf (bytesOf Sender m))
+  unfolding fieldDigits numbered
+  sender-code k e = ap (λ (j : ℕ). fieldDigits j m) e ∙ ap codeDigits sender-there
+
+  pub recipient-code : (k : ℕ) → k ≡ 2 → fieldDigits k m ≡ codeDigits (addressOf (bytesOf Recipient m))
+  unfolding fieldDigits numbered
+  recipient-code k e = ap (λ (j : ℕ). fieldDigits j m) e ∙ ap codeDigits recipient-there
+
+-- the other digit fields
 module _ (k : ℕ) (m : List ℕ) where
-  pub digits-there : readable layout6G1 m ≡ true → 1 ≤ k → k ≤ 6 → fieldDigits k m ≡ digitsOf (content k m)
+  pub digits-there : readable layout6G1 m ≡ true → 3 ≤ k → k ≤ 6 → fieldDigits k m ≡ digitsOf (content k m)
   unfolding fieldDigits
   digits-there h l u = ap (numbered k) (fields-read m h) ∙ digit-number k m l u
 
-  pub digits-other : readable layout6G1 m ≡ true → leb 1 k && leb k 6 ≡ false → None ≡ fieldDigits k m
+  pub digits-other : readable layout6G1 m ≡ true → k ≢ 1 → k ≢ 2 → leb 3 k && leb k 6 ≡ false → None ≡ fieldDigits k m
   unfolding fieldDigits
-  digits-other h t = sym (no-digit-number k (reading m .1) t)
+  digits-other h a b t = sym (no-digit-number k (reading m .1) a b t)
 
   pub digits-none : readable layout6G1 m ≡ false → None ≡ fieldDigits k m
   unfolding fieldDigits
   digits-none h = sym (ap (numbered k) (fields-none m h) ∙ nothing-numbered k)
 
--- a digit field is whole, and its number fits
-pub digit-field : (k : ℕ) (m : List ℕ) → readable layout6G1 m ≡ true → 1 ≤ k → k ≤ 6 → (whole k m ≡ true) × (length (content k m) ≤ 19)
+-- each of them is whole, and its number fits
+pub digit-field : (k : ℕ) (m : List ℕ) → readable layout6G1 m ≡ true → 3 ≤ k → k ≤ 6 → (whole k m ≡ true) × (length (content k m) ≤ 19)
 digit-field zero m h l u = absurd (let z : ⊥ = omega arith in z)
-digit-field (suc zero) m h l u = (whole-field m h Sender, omega (arith, length-field m h Sender))
-digit-field (suc (suc zero)) m h l u = (whole-field m h Recipient, omega (arith, length-field m h Recipient))
+digit-field (suc zero) m h l u = absurd (let z : ⊥ = omega arith in z)
+digit-field (suc (suc zero)) m h l u = absurd (let z : ⊥ = omega arith in z)
 digit-field (suc (suc (suc zero))) m h l u = (whole-field m h Cro, omega (arith, length-field m h Cro))
 digit-field (suc (suc (suc (suc zero)))) m h l u = (whole-field m h Date, omega (arith, length-field m h Date))
 digit-field (suc (suc (suc (suc (suc zero))))) m h l u = (whole-field m h Time, omega (arith, length-field m h Time))

@@ -1,8 +1,12 @@
-// The numbers of a readable 6G1, stored one after the other. Each of its fields stands where the layout
-// puts it, so that its bytes are parts at fixed indices.
+// The numbers of a readable 6G1, stored one after the other. Its last 339 bytes have every field but the
+// first three at one index, so that their bytes are parts at fixed indices of these.
+use addresses::Address;
 use digits::Digits;
 use digits::has_number;
 use digits::number_of;
+use envelope::internal::recipient_of;
+use envelope::internal::sender_of;
+use layout::internal::length_at;
 use places::Place;
 use places::internal::read_place;
 use words::internal::long_number_at;
@@ -15,7 +19,9 @@ ghost use lib.ListN.{length, set};
 ghost use Rattle.output.specs.Output.{Wrote};
 ghost use Rattle.layout.specs.Fields.{readable};
 ghost use Rattle.envelope.specs.Application.{layout6G1};
-ghost use Rattle.numbers.specs.Numbers.{digitNumbers, placeNumbers, fieldsNumbers, placesNumbers, textStarts, numbersOf, inArray};
+ghost use Rattle.numbers.specs.ByNumber.{codeDigits};
+ghost use Rattle.numbers.specs.Numbers.{digitNumbers, placeNumbers, placesNumbers, textStarts, addressNumbers, addressesNumbers, numbersOf, inArray};
+ghost use Rattle.numbers.specs.Codes.{codesNumbers, lastNumbers};
 
 // Writes one number.
 pub fn put(numbers: &mut [u64], at: usize, n: u64) -> usize
@@ -45,17 +51,50 @@ fn put_number(numbers: &mut [u64], at: usize, d: Digits) -> usize
     put(numbers, flag, has_number(d) as u64)
 }
 
-// Writes the numbers of the six digit fields.
-fn put_fields(numbers: &mut [u64], m: &[u8]) -> usize
-    requires { ⌜ (readable layout6G1 (now m) ≡ true) × (12 ≤ length (now numbers)) ⌝ }
-    ensures { λ r. ⌜ Wrote (now (numbers .entry)) 0 (fieldsNumbers (now (m .entry))) (now (numbers .exit)) r × (r ≡ 12) ⌝ }
+// The code of an address, as what a digit field holds.
+pub fn code_digits(a: Address) -> Digits
+    ensures { λ r. ⌜ r ≡ codeDigits a ⌝ }
+{
+    match a {
+        Address::Malformed => Digits::None,
+        Address::Code(n) => Digits::Number(n),
+        Address::Branch(n, _, _, _) => Digits::Number(n),
+    }
+}
+
+// Writes the codes of sender and recipient of a message of 339 bytes, in which both are short.
+fn put_short_codes(numbers: &mut [u64], m: &[u8]) -> usize
+    requires { ⌜ (readable layout6G1 (now m) ≡ true) × (length (now m) ≡ 339) × (4 ≤ length (now numbers)) ⌝ }
+    ensures { λ r. ⌜ Wrote (now (numbers .entry)) 0 (codesNumbers (now (m .entry))) (now (numbers .exit)) r × (r ≡ 4) ⌝ }
 {
     let recipient = put_number(numbers, 0, number_at(m, 9, 14));
-    let cro = put_number(numbers, recipient, number_at(m, 17, 22));
-    let date = put_number(numbers, cro, long_number_at(m, 25, 36));
-    let time = put_number(numbers, date, number_at(m, 39, 47));
-    let check = put_number(numbers, time, number_at(m, 50, 56));
-    put_number(numbers, check, number_at(m, 59, 64))
+    put_number(numbers, recipient, number_at(m, 17, 22))
+}
+
+// Writes the codes of sender and recipient.
+fn put_codes(numbers: &mut [u64], m: &[u8]) -> usize
+    requires { ⌜ (readable layout6G1 (now m) ≡ true) × (4 ≤ length (now numbers)) ⌝ }
+    ensures { λ r. ⌜ Wrote (now (numbers .entry)) 0 (codesNumbers (now (m .entry))) (now (numbers .exit)) r × (r ≡ 4) ⌝ }
+{
+    if m.len() == 339 {
+        return put_short_codes(numbers, m);
+    }
+    let recipient = put_number(numbers, 0, code_digits(sender_of(m)));
+    put_number(numbers, recipient, code_digits(recipient_of(m)))
+}
+
+// Writes the numbers of the four digit fields after them.
+fn put_fields(numbers: &mut [u64], at: usize, m: &[u8]) -> usize
+    requires { ⌜ (readable layout6G1 (now m) ≡ true) × (at + 8 ≤ length (now numbers)) ⌝ }
+    ensures { λ r. ⌜ Wrote (now (numbers .entry)) at (lastNumbers (now (m .entry))) (now (numbers .exit)) r × (r ≡ at + 8) ⌝ }
+{
+    let n = m.len();
+    let k = n - 339;
+    let t = &m[k..n];
+    let date = put_number(numbers, at, long_number_at(t, 25, 36));
+    let time = put_number(numbers, date, number_at(t, 39, 47));
+    let check = put_number(numbers, time, number_at(t, 50, 56));
+    put_number(numbers, check, number_at(t, 59, 64))
 }
 
 // Writes the numbers of a place and whether it is well formed.
@@ -76,7 +115,7 @@ fn put_places(numbers: &mut [u64], at: usize, m: &[u8]) -> usize
     let mut end = at;
     let mut k = 0;
     while k < 10 {
-        let start = 81 + 24 * k;
+        let start = m.len() - 258 + 24 * k;
         end = put_place(numbers, end, read_place(&m[start..start + 24]));
         k += 1;
     }
@@ -86,19 +125,48 @@ fn put_places(numbers: &mut [u64], at: usize, m: &[u8]) -> usize
 // Writes where type, identifier and name start.
 fn put_starts(numbers: &mut [u64], at: usize, m: &[u8]) -> usize
     requires { ⌜ (readable layout6G1 (now m) ≡ true) × (at + 3 ≤ length (now numbers)) ⌝ }
-    ensures { λ r. ⌜ Wrote (now (numbers .entry)) at (textStarts (now (m .entry))) (now (numbers .exit)) r ⌝ }
+    ensures { λ r. ⌜ Wrote (now (numbers .entry)) at (textStarts (now (m .entry))) (now (numbers .exit)) r × (r ≡ at + 3) ⌝ }
 {
-    put_three(numbers, at, 3, 67, 324)
+    let n = m.len();
+    put_three(numbers, at, 3, (n - 272) as u64, (n - 15) as u64)
+}
+
+// Writes what a long form has besides its code.
+fn put_address(numbers: &mut [u64], at: usize, a: Address, text: u64) -> usize
+    requires { ⌜ at + 3 ≤ length (now numbers) ⌝ }
+    ensures { λ r. ⌜ Wrote (now (numbers .entry)) at (addressNumbers a text) (now (numbers .exit)) r × (r ≡ at + 3) ⌝ }
+{
+    match a {
+        Address::Malformed => put_three(numbers, at, 0, 0, 0),
+        Address::Code(_) => put_three(numbers, at, 0, 0, 0),
+        Address::Branch(_, branch, _, _) => put_three(numbers, at, 1, branch, text),
+    }
+}
+
+// Writes that of sender and recipient. In 339 bytes both are short.
+fn put_addresses(numbers: &mut [u64], at: usize, m: &[u8]) -> usize
+    requires { ⌜ (readable layout6G1 (now m) ≡ true) × (at + 6 ≤ length (now numbers)) ⌝ }
+    ensures { λ r. ⌜ Wrote (now (numbers .entry)) at (addressesNumbers (now (m .entry))) (now (numbers .exit)) r ⌝ }
+{
+    if m.len() == 339 {
+        let recipient = put_three(numbers, at, 0, 0, 0);
+        return put_three(numbers, recipient, 0, 0, 0);
+    }
+    let recipient = put_address(numbers, at, sender_of(m), 21);
+    let w = length_at(m, 6);
+    put_address(numbers, recipient, recipient_of(m), (w + 24) as u64)
 }
 
 // Writes all numbers of a message.
 pub fn put_all(numbers: &mut [u64], m: &[u8]) -> usize
-    requires { ⌜ (readable layout6G1 (now m) ≡ true) × (45 ≤ length (now numbers)) ⌝ }
+    requires { ⌜ (readable layout6G1 (now m) ≡ true) × (51 ≤ length (now numbers)) ⌝ }
     ensures { λ r. ⌜ Wrote (now (numbers .entry)) 0 (numbersOf (now (m .entry))) (now (numbers .exit)) r ⌝ }
 {
-    let places = put_fields(numbers, m);
+    let fields = put_codes(numbers, m);
+    let places = put_fields(numbers, fields, m);
     let starts = put_places(numbers, places, m);
-    put_starts(numbers, starts, m)
+    let addresses = put_starts(numbers, starts, m);
+    put_addresses(numbers, addresses, m)
 }
 
 // Stores a number where the array has room for it.

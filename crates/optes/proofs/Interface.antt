@@ -24,7 +24,7 @@ pub numbers-given : (m array : List ℕ) → readable layout6G1 m ≡ true → n
 unfolding numbersRead firstHolding
 numbers-given m array h = rw h
 
-pub numbers-all : (m array after : List ℕ) (end : ℕ) → readable layout6G1 m ≡ true → 45 ≤ length array → Wrote array 0 (numbersOf m) after end → numbersRead m array ≡ (none, after)
+pub numbers-all : (m array after : List ℕ) (end : ℕ) → readable layout6G1 m ≡ true → 51 ≤ length array → Wrote array 0 (numbersOf m) after end → numbersRead m array ≡ (none, after)
 unfolding inArray
 numbers-all m array after end h l w =
     let n = length-numbers m in

@@ -8,6 +8,7 @@ use lib.Dec.{ltb}
 use lib.ListN.{length}
 use borrow.Author.Tests.{ltb-true, ltb-false, lt-ltb, le-ltb}
 use Rattle.laws.proofs.Tests.{and-left, and-right}
+use Rattle.addresses.specs.Addresses.{addressFits}
 use Rattle.places.specs.declared.Rate.{Rate}
 use Rattle.places.specs.declared.Amount.{Amount}
 use Rattle.places.specs.Bids.{fits, placesFit}
@@ -57,10 +58,10 @@ pub held-write : (a : Application) (rs : List ℕ) (kind identifier name space :
 held-write a rs kind identifier name space l = go (numbersFit (withRates a (map rateOf rs))) refl
   where
     same : numbersFit (withRates a (map heldRate rs)) ≡ numbersFit (withRates a (map rateOf rs))
-    same = unfold numbersFit in ap (λ (t : Bool). fits 5 (a .sender) && fits 5 (a .recipient) && fits 11 (a .cro) && fits 8 (a .date) && fits 6 (a .time) && fits 5 (a .check) && t) (held-places rs (a .amounts))
+    same = unfold numbersFit in ap (λ (t : Bool). addressFits (a .sender) && addressFits (a .recipient) && fits 11 (a .cro) && fits 8 (a .date) && fits 6 (a .time) && fits 5 (a .check) && t) (held-places rs (a .amounts))
 
     go : (t : Bool) → numbersFit (withRates a (map rateOf rs)) ≡ t → write (withRates a (map heldRate rs)) kind identifier name space ≡ write (withRates a (map rateOf rs)) kind identifier name space
     go false e = refused (withRates a (map heldRate rs)) (withRates a (map rateOf rs)) kind identifier name space (same ∙ e) e
     go true e =
-        let f = and-right (fits 5 (a .sender) && fits 5 (a .recipient) && fits 11 (a .cro) && fits 8 (a .date) && fits 6 (a .time) && fits 5 (a .check)) (placesFit (map rateOf rs) (a .amounts)) (unfold numbersFit in e) in
+        let f = and-right (addressFits (a .sender) && addressFits (a .recipient) && fits 11 (a .cro) && fits 8 (a .date) && fits 6 (a .time) && fits 5 (a .check)) (placesFit (map rateOf rs) (a .amounts)) (unfold numbersFit in e) in
         ap (λ (rates : List Rate). write (withRates a rates) kind identifier name space) (same-rates rs (a .amounts) l f)

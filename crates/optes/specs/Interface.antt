@@ -6,6 +6,7 @@ use Prim.Native.Nat.{ℕ}
 use lib.Dec.{ltb}
 use lib.ListN.{length}
 use Rattle.layout.specs.Fields.{content}
+use Rattle.addresses.specs.declared.Address.the-variants.{Code}
 use Rattle.places.specs.declared.Rate.{Rate}
 use Rattle.places.specs.declared.Amount.{Amount}
 use Rattle.envelope.specs.declared.application.Application.{Application}
@@ -26,11 +27,11 @@ answered w = (answerNumber (w .0), w .1)
 unfoldable pub lengthOf : ℕ → List ℕ → ℕ
 lengthOf k m = cond (hasField k m) (length (content k m)) 0
 
--- 'reading a 6G1 [checks] 12': it gives as many of the numbers as the array has room for, and the entries past the 45 stay; a refused call leaves the array
+-- 'reading a 6G1 [checks] 12': it gives as many of the numbers as the array has room for, and the entries past the 51 stay; a refused call leaves the array
 unfoldable pub numbersRead : List ℕ → List ℕ → Option ℕ × List ℕ
 numbersRead m array = (readingRefused m, unlessRefused (readingRefused m) array (inArray (numbersOf m) array))
 
--- the application of 26 numbers
+-- the application of 26 numbers, its sender and recipient short
 abbrev pub rateOf : ℕ → Rate
 rateOf n = record { 0 = n }
 
@@ -40,8 +41,8 @@ amountOf n = record { 0 = n }
 abbrev pub applicationOf : ℕ → ℕ → ℕ → ℕ → ℕ → ℕ → List ℕ → List ℕ → Application
 applicationOf sender recipient cro date time check rates amounts =
     record {
-      sender = sender;
-      recipient = recipient;
+      sender = Code sender;
+      recipient = Code recipient;
       cro = cro;
       date = date;
       time = time;

@@ -7,8 +7,11 @@ use envelope::application::Field;
 use envelope::application::is_6g1;
 use envelope::internal::bytes_in;
 use envelope::internal::number_in;
+use envelope::internal::recipient_of;
+use envelope::internal::sender_of;
 use layout::internal::contents;
 use layout::internal::offset_of;
+use numbers::internal::code_digits;
 use places::Amount;
 use places::Place;
 use places::Rate;
@@ -75,12 +78,18 @@ pub extern "C" fn optes_6g1_length(m: &[u8], field: u32) -> usize
     }
 }
 
-// What a digit field holds; any other field has no number.
+// What a digit field holds, which for sender and recipient is their code; any other field has no number.
 fn digits_at(m: &[u8], field: u32) -> Digits
     ensures { λ r. ⌜ r ≡ fieldDigits field (now (m .entry)) ⌝ }
 {
     if is_6g1(m) {
-        if (1 <= field) & (field <= 6) {
+        if field == 1 {
+            return code_digits(sender_of(m));
+        }
+        if field == 2 {
+            return code_digits(recipient_of(m));
+        }
+        if (3 <= field) & (field <= 6) {
             return number_in(m, field as usize);
         }
         return Digits::None;

@@ -5,7 +5,7 @@ use numbers::internal::put_first;
 ghost use mathlib.Core.Path.{_≡_};
 ghost use Rattle.optes.specs.Interface.{answered, numbersRead};
 
-// Reads as many of the 45 numbers of a 6G1 as the array has room for: 0, or 12 with the array as it was.
+// Reads as many of the 51 numbers of a 6G1 as the array has room for: 0, or 12 with the array as it was.
 #[no_mangle]
 pub extern "C" fn optes_6g1_numbers(m: &[u8], numbers: &mut [u64]) -> u32
     ensures { λ r. ⌜ (r, now (numbers .exit)) ≡ answered (numbersRead (now (m .entry)) (now (numbers .entry))) ⌝ }
@@ -13,8 +13,8 @@ pub extern "C" fn optes_6g1_numbers(m: &[u8], numbers: &mut [u64]) -> u32
     if !is_6g1(m) {
         return 12;
     }
-    if numbers.len() < 45 {
-        let mut all = [0; 45];
+    if numbers.len() < 51 {
+        let mut all = [0; 51];
         put_all(&mut all, m);
         put_first(numbers, &all);
         return 0;

@@ -1,4 +1,5 @@
-// A 6G1 written for a host: 26 numbers, three texts and the space.
+// A 6G1 written for a host: 26 numbers, three texts and the space. Its sender and recipient are short.
+use addresses::Address;
 use envelope::application::Application;
 use envelope::application::WriteAnswer;
 use envelope::application::write;
@@ -95,8 +96,8 @@ pub extern "C" fn optes_6g1_write(
         Amount(amount9),
     ];
     let a = Application {
-        sender,
-        recipient,
+        sender: Address::Code(sender),
+        recipient: Address::Code(recipient),
         cro,
         date,
         time,

@@ -1,30 +1,41 @@
 -- `envelope::application::bytes` meets its contract. Assumes nothing.
 use borrow.Author.Needs.{needs}
-use mathlib.Core.Path.{sym, ap₂, _∙_}
-use mathlib.Core.Bool.{Bool, cond}
-use mathlib.Core.List.{[]}
-use Prim.Native.Nat.{ℕ}
-use denote.Ref.{now}
-use Rattle.layout.specs.Fields.{content}
+use mathlib.Core.Path.{sym, _∙_}
 use Rattle.envelope.specs.Application.{fieldBytes}
-use Rattle.envelope.proofs.Fields6G1.{whole-field}
 use Rattle.envelope.proofs.application.bytes.Statement.{statement}
 use Rattle.envelope.proofs.application.bytes.Tie as tie
 
 is-6g1-requires : tie.Need-is-6g1-requires
 is-6g1-requires c κs = search needs
 
-position-of-requires : tie.Need-position-of-requires
-position-of-requires c κs = search needs
+bytes-in-requires : tie.Need-bytes-in-requires
+bytes-in-requires c κs = sym (c .before .is-6g1 .ensures) ∙ c .if1 .taken
 
-contents-if-requires : tie.Need-contents-if-requires
-contents-if-requires c κs =
-    let a = c .before .before .before .args in
-    λ t. rw (c .position-of .ensures) (whole-field (now (a .m)) (sym (c .before .is-6g1 .ensures) ∙ t) (a .f))
+sub-result : tie.Need-sub-result
+sub-result c = search needs
+
+part-result-start : tie.Need-part-result-start
+part-result-start c = search needs
+
+part-result-end : tie.Need-part-result-end
+part-result-end c = search needs
 
 returns : tie.Need-returns
 unfolding fieldBytes
-returns c = c .contents-if .ensures ∙ ap₂ (λ (b : Bool) (k : ℕ). cond b (content k (now (c .before .before .before .before .args .m))) []) (c .before .before .is-6g1 .ensures) (c .before .position-of .ensures)
+returns c = rw (sym (c .before .before .is-6g1 .ensures) ∙ c .before .if1 .taken) (c .bytes-in .ensures .0)
+
+returns-2 : tie.Need-returns-2
+unfolding fieldBytes
+returns-2 c = rw (sym (c .before .before .is-6g1 .ensures) ∙ c .before .if1 .left)
 
 pub bytes-spec : {M : Type 1} → statement M
-bytes-spec = tie.close (tie.spec is-6g1-requires position-of-requires contents-if-requires returns)
+bytes-spec =
+    tie.close
+    (tie.spec
+    is-6g1-requires
+    bytes-in-requires
+    sub-result
+    part-result-start
+    part-result-end
+    returns
+    returns-2)

@@ -1,6 +1,7 @@
 -- `envelope::application::put_first` meets its contract: five fields, chained. Assumes nothing.
 use borrow.Author.Needs.{needs}
 use Prim.Native.Nat.{zero-le}
+use native.Mathlib.Omega.{arith}
 use Rattle.output.proofs.Output.{then}
 use Rattle.envelope.specs.Writing.{firstFields}
 use Rattle.envelope.proofs.application.put_first.Statement.{statement}
@@ -9,17 +10,17 @@ use Rattle.envelope.proofs.application.put_first.Tie as tie
 put-field-requires : tie.Need-put-field-requires
 put-field-requires c κs = search needs
 
+put-address-requires : tie.Need-put-address-requires
+put-address-requires c κs = search needs
+
+put-address-requires-2 : tie.Need-put-address-requires-2
+put-address-requires-2 c κs = search needs
+
 put-number-requires : tie.Need-put-number-requires
 put-number-requires c κs = search needs
 
 put-number-requires-2 : tie.Need-put-number-requires-2
 put-number-requires-2 c κs = search needs
-
-put-number-requires-3 : tie.Need-put-number-requires-3
-put-number-requires-3 c κs = search needs
-
-put-number-requires-4 : tie.Need-put-number-requires-4
-put-number-requires-4 c κs = search needs
 
 same-length : tie.Need-same-length
 same-length c = search needs
@@ -32,8 +33,8 @@ returns c =
     let recipient = cro .before .before .before .before in
     let sender = recipient .before .before .before .before in
     let kind = sender .before .before .before .before in (
-      then zero-le (then zero-le (then zero-le (then zero-le (kind .put-field .ensures .0) (sender .put-number .ensures .0)) (recipient .put-number2 .ensures .0)) (cro .put-number3 .ensures .0)) (date .put-number4 .ensures .0),
-      search needs,
+      then zero-le (then zero-le (then zero-le (then zero-le (kind .put-field .ensures .0) (sender .put-address .ensures .0)) (recipient .put-address2 .ensures .0)) (cro .put-number .ensures .0)) (date .put-number2 .ensures .0),
+      omega (arith, kind .put-field .ensures .1, sender .put-address .ensures .1, recipient .put-address2 .ensures .1, cro .put-number .ensures .1, date .put-number2 .ensures .1),
     )
 
 pub put-first-spec : {M : Type 1} → statement M
@@ -41,9 +42,9 @@ put-first-spec =
     tie.close
     (tie.spec
     put-field-requires
+    put-address-requires
+    put-address-requires-2
     put-number-requires
     put-number-requires-2
-    put-number-requires-3
-    put-number-requires-4
     same-length
     returns)

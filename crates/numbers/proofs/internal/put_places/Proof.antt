@@ -8,9 +8,8 @@ use lib.ListN.{length, take, drop}
 use Rattle.output.specs.Output.{Wrote}
 use Rattle.output.proofs.Output.{then, said, nothing}
 use Rattle.places.specs.Bids.{placeOf}
-use Rattle.envelope.proofs.Promise.{message-length}
 use Rattle.numbers.specs.Numbers.{placeNumbers, placesNumbers}
-use Rattle.numbers.proofs.Parts.{place-part, places-more}
+use Rattle.numbers.proofs.Parts.{all-bytes, place-part, places-more}
 use Rattle.numbers.proofs.internal.put_places.Statement.{statement}
 use Rattle.numbers.proofs.internal.put_places.Tie as tie
 
@@ -25,14 +24,17 @@ loop-holds : tie.Need-loop-holds Inv-loop μ-loop
 unfolding placesNumbers
 loop-holds c = (omega arith, omega arith, omega arith, nothing (now (c .before .before .args .numbers)) (c .before .before .args .at))
 
+sub-start : tie.Need-sub-start Inv-loop μ-loop
+sub-start c = omega (arith, all-bytes (now (c .before .before .before .before .args .m)) (c .before .before .before .before .pre .0))
+
 mul-start : tie.Need-mul-start Inv-loop μ-loop
 mul-start c = omega arith
 
 add-start : tie.Need-add-start Inv-loop μ-loop
-add-start c = omega arith
+add-start c = omega (arith, all-bytes (now (c .before .before .before .before .args .m)) (c .before .before .before .before .pre .0))
 
 add-read-place : tie.Need-add-read-place Inv-loop μ-loop
-add-read-place c = omega arith
+add-read-place c = omega (arith, all-bytes (now (c .before .before .before .before .before .args .m)) (c .before .before .before .before .before .pre .0))
 
 sub-read-place : tie.Need-sub-read-place Inv-loop μ-loop
 sub-read-place c = omega arith
@@ -41,7 +43,7 @@ part-read-place-start : tie.Need-part-read-place-start Inv-loop μ-loop
 part-read-place-start c = omega arith
 
 part-read-place-end : tie.Need-part-read-place-end Inv-loop μ-loop
-part-read-place-end c = omega (arith, message-length (now (c .before .before .before .before .before .args .m)) (c .before .before .before .before .before .pre .0))
+part-read-place-end c = omega (arith, all-bytes (now (c .before .before .before .before .before .args .m)) (c .before .before .before .before .before .pre .0))
 
 read-place-requires : tie.Need-read-place-requires Inv-loop μ-loop
 read-place-requires c κs = search needs
@@ -61,8 +63,9 @@ loop-again c =
     let m = now (start .args .m) in
     let l = c .before .before .before .before .before .before .before .loop in
     let k = l .k in
-    let n : 81 + 24 * k + 24 - (81 + 24 * k) ≡ 24 = omega arith in
-    let p = c .before .before .before .read-place .ensures ∙ ap (λ (j : ℕ). placeOf (take j (drop (81 + 24 * k) m))) n ∙ place-part m (start .pre .0) k (omega arith) in
+    let at = length m - 258 + 24 * k in
+    let n : at + 24 - at ≡ 24 = omega arith in
+    let p = c .before .before .before .read-place .ensures ∙ ap (λ (j : ℕ). placeOf (take j (drop at m))) n ∙ place-part m (start .pre .0) k (omega arith) in
     (omega arith, omega arith, omega arith, said (places-more k m) (then (omega arith) (l .inv .3) (said (ap placeNumbers p) (c .before .before .put-place .ensures .0))))
 
 same-length : tie.Need-same-length Inv-loop μ-loop
@@ -81,6 +84,7 @@ put-places-spec =
     Inv-loop
     μ-loop
     loop-holds
+    sub-start
     mul-start
     add-start
     add-read-place
