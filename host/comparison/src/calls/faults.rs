@@ -3,6 +3,7 @@
 use crate::calls::book::{Book, NO_TENDER, OK, WORDS};
 use crate::calls::independent_book::IndependentBook as Right;
 use crate::calls::layout::{self, STATE};
+use independent::application::{Application, Field};
 
 /// The faults, by their numbers.
 pub const FAULTS: [&str; 10] = [
@@ -23,13 +24,11 @@ pub struct Faulty<const FAULT: usize>;
 
 /// Holds the time of the message's reference for its sender, whatever became of it.
 fn hold_time(words: &mut [u64], message: &[u8]) {
-    let number = |start: usize, end: usize| -> Option<u64> {
-        std::str::from_utf8(&message[start..end]).ok()?.parse().ok()
-    };
     let Some(mut tender) = layout::tender_of(words) else { return };
-    let (Some(code), Some(time)) = (number(9, 14), number(50, 56)) else { return };
-    let time = independent::calendar::Time::of_number(time);
-    for holding in tender.book.iter_mut().filter(|holding| u64::from(holding.code) == code) {
+    let Ok(read) = Application::read(message) else { return };
+    let (code, time) = (read.number(Field::Sender), read.number(Field::ReferenceTime));
+    let time = time.and_then(independent::calendar::Time::of_number);
+    for holding in tender.book.iter_mut().filter(|holding| Some(u64::from(holding.code)) == code) {
         holding.time = holding.time.max(time);
     }
     layout::put_changed(words, &tender);
