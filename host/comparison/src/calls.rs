@@ -85,6 +85,9 @@ mod tests {
             steps_for::<7>(),
             steps_for::<8>(),
             steps_for::<9>(),
+            steps_for::<10>(),
+            steps_for::<11>(),
+            steps_for::<12>(),
         ];
         assert_eq!(steps.len(), FAULTS.len());
         assert!(steps.iter().all(|&steps| steps <= 5), "{steps:?}");

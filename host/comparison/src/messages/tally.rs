@@ -35,7 +35,7 @@ pub enum Outcome {
     Written,
     /// Written to a message of this length.
     WrittenLength(usize),
-    /// Written though a short form had a number or a text that a long one could not have.
+    /// Written though a short form had a number and a text that a long one could not have.
     Unseen,
     Unfit,
     NoRoom,

@@ -102,7 +102,7 @@ fn count_written(given: &Fields, tally: &mut Tally) {
     tally.add(Outcome::Written);
     tally.add(Outcome::WrittenLength(given.length()));
     let is_unseen = |form: &AddressForm| {
-        form.length == SHORT as u64 && (form.branch > 99_999 || form.text.len() != TEXT_BYTES)
+        form.length == SHORT as u64 && form.branch > 99_999 && form.text.len() != TEXT_BYTES
     };
     if given.forms.iter().any(is_unseen) {
         tally.add(Outcome::Unseen);
