@@ -63,19 +63,40 @@ impl Form {
     }
 
     /// Where the contents of a field are.
+    #[inline]
     fn contents(&self, field: Field) -> Range<usize> {
+        const OTHERS: [(u8, usize); FIELDS] = Form::new(SHORT, SHORT).layout;
+        // Only the lengths of addresses are not constants.
+        let length = match field {
+            Field::Sender | Field::Recipient => self.layout[field as usize].1,
+            _ => OTHERS[field as usize].1,
+        };
         let start = self.start(field);
-        start..start + self.head(field).1
+        start..start + length
     }
 }
 
 /// The forms that there are; each address is short or long by itself.
-static FORMS: [Form; 4] = [
-    Form::new(SHORT, SHORT),
-    Form::new(LONG, SHORT),
-    Form::new(SHORT, LONG),
-    Form::new(LONG, LONG),
-];
+static BOTH_SHORT: Form = Form::new(SHORT, SHORT);
+static SENDER_LONG: Form = Form::new(LONG, SHORT);
+static RECIPIENT_LONG: Form = Form::new(SHORT, LONG);
+static BOTH_LONG: Form = Form::new(LONG, LONG);
+
+/// The form that the message has, or none where it is not readable.
+fn form_of(message: &[u8]) -> Option<&'static Form> {
+    // Each form is looked at by itself, so that its heads are constants.
+    if envelope::has_layout(message, &BOTH_SHORT.layout) {
+        Some(&BOTH_SHORT)
+    } else if envelope::has_layout(message, &SENDER_LONG.layout) {
+        Some(&SENDER_LONG)
+    } else if envelope::has_layout(message, &RECIPIENT_LONG.layout) {
+        Some(&RECIPIENT_LONG)
+    } else if envelope::has_layout(message, &BOTH_LONG.layout) {
+        Some(&BOTH_LONG)
+    } else {
+        None
+    }
+}
 
 /// The bytes of the shortest and of the longest 6G1.
 pub const SHORTEST: usize = Form::new(SHORT, SHORT).whole();
@@ -122,17 +143,18 @@ pub struct Application<'a> {
 impl<'a> Application<'a> {
     /// Reads a message; it is refused where its tags, order or lengths are not a 6G1's.
     pub fn read(message: &'a [u8]) -> Result<Application<'a>, Refusal> {
-        let form = FORMS.iter().find(|form| envelope::has_layout(message, &form.layout));
-        let form = form.ok_or(Refusal::Unreadable)?;
+        let form = form_of(message).ok_or(Refusal::Unreadable)?;
         Ok(Application { message, form })
     }
 
     /// Where a field's bytes are in the message.
+    #[inline]
     pub fn range(&self, field: Field) -> Range<usize> {
         self.form.contents(field)
     }
 
     /// A field's bytes.
+    #[inline]
     pub fn field(&self, field: Field) -> &'a [u8] {
         &self.message[self.range(field)]
     }
@@ -260,10 +282,10 @@ impl<'a> Draft<'a> {
 
     fn form(&self) -> &'static Form {
         match (self.sender.length(), self.recipient.length()) {
-            (SHORT, SHORT) => &FORMS[0],
-            (LONG, SHORT) => &FORMS[1],
-            (SHORT, _) => &FORMS[2],
-            _ => &FORMS[3],
+            (SHORT, SHORT) => &BOTH_SHORT,
+            (LONG, SHORT) => &SENDER_LONG,
+            (SHORT, _) => &RECIPIENT_LONG,
+            _ => &BOTH_LONG,
         }
     }
 

@@ -1,7 +1,7 @@
 //! What the addresses of received messages showed.
 
 use super::{is_wrong_by_second_five, is_wrong_by_slash};
-use independent::address::{first_five, LONG};
+use independent::address::{first_five, LONG, SHORT};
 use independent::application::{Application, Field};
 use std::collections::BTreeMap;
 
@@ -19,6 +19,12 @@ pub const NAMES: [&str; 8] = [
     "302 for another branch",
     "a long address returned",
 ];
+
+/// Whether a message is an announcement but for one address, which is long.
+pub fn is_long_announcement(message: &[u8]) -> bool {
+    let whole = independent::announcement::LENGTH + LONG - SHORT;
+    message.len() == whole && (message[8] == LONG as u8 || message[16] == LONG as u8)
+}
 
 /// The sender of the last accepted application of each code of a tender.
 #[derive(Default)]

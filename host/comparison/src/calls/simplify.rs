@@ -6,7 +6,7 @@ use crate::calls::script::keys::{self, Key};
 use crate::calls::script::parted::Parted;
 use crate::calls::script::SPACE;
 use crate::calls::step::{Call, Step};
-use independent::address::first_five;
+use independent::address::{first_five, LONG};
 use independent::application::PLACES;
 use independent::award::POSITIONS;
 
@@ -71,20 +71,27 @@ fn simpler_calls(call: &Call) -> Vec<Call> {
     }
 }
 
-/// The application with addresses that are short or the worked example's, and with the worked
-/// example's value for each of the keys.
+/// The application with simpler addresses, and with the worked example's value for each of the keys.
 fn nearer_applications(message: &[u8]) -> Vec<Vec<u8>> {
     let (worked, keys) = (Parted::worked(), application_keys());
     let Some(parted) = Parted::of(message) else { return nearer(message, &worked.message, &keys) };
-    let code = first_five(&parted.sender).to_vec();
-    let addresses = [
-        Parted { sender: code, ..parted.clone() },
-        Parted { recipient: first_five(&parted.recipient).to_vec(), ..parted.clone() },
-        Parted { recipient: worked.recipient.clone(), ..parted.clone() },
-    ];
+    let senders = simpler_addresses(&parted.sender).into_iter();
+    let senders = senders.map(|sender| Parted { sender, ..parted.clone() });
+    let recipients = simpler_addresses(&parted.recipient).into_iter().chain([worked.recipient]);
+    let recipients = recipients.map(|recipient| Parted { recipient, ..parted.clone() });
     let messages = nearer(&parted.message, &worked.message, &keys).into_iter();
     let others = messages.map(|message| Parted { message, ..parted.clone() });
-    addresses.into_iter().chain(others).map(|parted| parted.joined()).collect()
+    senders.chain(recipients).chain(others).map(|parted| parted.joined()).collect()
+}
+
+/// The short form of an address, and of a long one that with the plainest branch.
+fn simpler_addresses(address: &[u8]) -> Vec<Vec<u8>> {
+    let code = first_five(address);
+    let mut simpler = vec![code.to_vec()];
+    if address.len() == LONG {
+        simpler.push([code, b"/00000/AB"].concat());
+    }
+    simpler
 }
 
 /// The keys of an application and those of its places.

@@ -1,6 +1,6 @@
 //! What is rare in a session and must be drawn all the same, for a book may be wrong just there.
 
-use crate::addresses::shown::{Shown, NAMES};
+use crate::addresses::shown::{is_long_announcement, Shown, NAMES};
 use independent::announcement::Terms;
 use independent::application::{Application, Field, PLACES};
 use independent::award::{Bid, Side};
@@ -31,6 +31,8 @@ impl Drawn {
             if journal.step(tag, contents, &mut line).is_break() {
                 return;
             }
+            let is_long = tag == ANNOUNCEMENT && is_long_announcement(contents);
+            self.add("announcement with a long address", is_long);
             match tag {
                 ANNOUNCEMENT if line.is_empty() => self.announced(contents),
                 RECEPTION => self.received(contents.split_at(14), &line),
