@@ -77,14 +77,18 @@ impl Drawn {
     /// Counts what the addresses show, with the errors of the line that matter for them.
     fn addressed(&mut self, application: &Application, line: &[u8]) {
         let has = |text: &[u8]| line.windows(text.len()).any(|part| part == text);
-        if has(b"R -----") {
+        // A reception that is skipped has no line.
+        if line.is_empty() || line.starts_with(b"R -----") {
             return;
         }
-        let errors: &[u64] = match () {
-            _ if line.starts_with(b"C ") => &[],
-            _ if has(b"040 - 309") => &[309],
-            _ if has(b"601 - 302") => &[302],
-            _ => &[999],
+        let errors: &[u64] = if line.starts_with(b"C ") {
+            &[]
+        } else if has(b"040 - 309") {
+            &[309]
+        } else if has(b"601 - 302") {
+            &[302]
+        } else {
+            &[999]
         };
         let shown = self.addresses.of(application, errors);
         NAMES.into_iter().zip(shown).for_each(|(name, is_so)| self.add(name, is_so));
