@@ -49,7 +49,7 @@ mod tests {
         for seed in DEFAULT_SEED..DEFAULT_SEED + DEFAULT_COUNT / 10 {
             drawn.count(&generate::sequence(seed));
         }
-        assert_eq!(drawn.counts.len(), 31, "each boundary was looked for: {:?}", drawn.counts);
+        assert_eq!(drawn.counts.len(), 35, "each boundary was looked for: {:?}", drawn.counts);
         assert!(drawn.counts.values().all(|&count| count >= 20), "{:?}", drawn.counts);
     }
 
@@ -85,6 +85,9 @@ mod tests {
             steps_for::<7>(),
             steps_for::<8>(),
             steps_for::<9>(),
+            steps_for::<10>(),
+            steps_for::<11>(),
+            steps_for::<12>(),
         ];
         assert_eq!(steps.len(), FAULTS.len());
         assert!(steps.iter().all(|&steps| steps <= 5), "{steps:?}");

@@ -85,7 +85,7 @@ pub fn push_odd_step(random: &mut Random, session: &mut Vec<u8>) {
     let length = match tag {
         0xa0 => random.pick(&[1, 4, 5, 6, 10, 14]),
         0xa1 => random.pick(&[0, 224, 225, 226]),
-        0xa2 | 0xa3 => random.pick(&[0, 13, 14, 15, 353]),
+        0xa2 | 0xa3 => random.pick(&[0, 13, 14, 15, 353, 362, 371]),
         _ => random.pick(&[0, 1, 14]),
     };
     let contents = vec![random.pick(b"0129/x"); length];

@@ -2,6 +2,7 @@
 //! independent implementation of document 01.
 #![deny(unsafe_code)]
 
+pub mod addresses;
 pub mod arguments;
 pub mod calls;
 pub mod damage;

@@ -4,8 +4,9 @@
 //! lent, and a space that is lent for writing overlaps no text: all that the header asks of a caller.
 #![allow(unsafe_code)]
 
-use crate::interface::{with_numbers, Fields, Interface};
+use crate::interface::{with_forms, with_numbers, Fields, Interface};
 
+#[rustfmt::skip] // The numbers and lengths stand as in include/optes.h.
 extern "C" {
     fn optes_6g1_read(m: *const u8, n: usize) -> u32;
     fn optes_6g1_numbers(m: *const u8, n: usize, numbers: *mut u64, count: usize) -> u32;
@@ -18,40 +19,30 @@ extern "C" {
     fn optes_6g1_rate(m: *const u8, n: usize, place: u32) -> u32;
     fn optes_6g1_amount(m: *const u8, n: usize, place: u32) -> u64;
     fn optes_6g1_write(
-        sender: u64,
-        recipient: u64,
-        cro: u64,
-        date: u64,
-        time: u64,
-        check: u64,
-        rate0: u64,
-        rate1: u64,
-        rate2: u64,
-        rate3: u64,
-        rate4: u64,
-        rate5: u64,
-        rate6: u64,
-        rate7: u64,
-        rate8: u64,
-        rate9: u64,
-        amount0: u64,
-        amount1: u64,
-        amount2: u64,
-        amount3: u64,
-        amount4: u64,
-        amount5: u64,
-        amount6: u64,
-        amount7: u64,
-        amount8: u64,
-        amount9: u64,
-        kind: *const u8,
-        kind_length: usize,
-        identifier: *const u8,
-        identifier_length: usize,
-        name: *const u8,
-        name_length: usize,
-        space: *mut u8,
-        n: usize,
+        sender: u64, recipient: u64, cro: u64, date: u64, time: u64, check: u64,
+        rate0: u64, rate1: u64, rate2: u64, rate3: u64, rate4: u64,
+        rate5: u64, rate6: u64, rate7: u64, rate8: u64, rate9: u64,
+        amount0: u64, amount1: u64, amount2: u64, amount3: u64, amount4: u64,
+        amount5: u64, amount6: u64, amount7: u64, amount8: u64, amount9: u64,
+        kind: *const u8, kind_length: usize,
+        identifier: *const u8, identifier_length: usize,
+        name: *const u8, name_length: usize,
+        space: *mut u8, n: usize,
+    ) -> u32;
+    fn optes_6g1_write_addresses(
+        sender: u64, sender_length: u64, sender_branch: u64,
+        recipient: u64, recipient_length: u64, recipient_branch: u64,
+        cro: u64, date: u64, time: u64, check: u64,
+        rate0: u64, rate1: u64, rate2: u64, rate3: u64, rate4: u64,
+        rate5: u64, rate6: u64, rate7: u64, rate8: u64, rate9: u64,
+        amount0: u64, amount1: u64, amount2: u64, amount3: u64, amount4: u64,
+        amount5: u64, amount6: u64, amount7: u64, amount8: u64, amount9: u64,
+        sender_text: *const u8, sender_text_length: usize,
+        recipient_text: *const u8, recipient_text_length: usize,
+        kind: *const u8, kind_length: usize,
+        identifier: *const u8, identifier_length: usize,
+        name: *const u8, name_length: usize,
+        space: *mut u8, n: usize,
     ) -> u32;
 }
 
@@ -118,10 +109,26 @@ impl Interface for Library {
     #[inline(always)]
     #[rustfmt::skip] // Each pointer stands beside its length.
     fn write(fields: &Fields, space: &mut [u8]) -> u32 {
-        let Fields { numbers, kind, identifier, name } = fields;
+        let Fields { numbers, kind, identifier, name, .. } = fields;
         unsafe {
             with_numbers!(
                 optes_6g1_write, numbers,
+                kind.as_ptr(), kind.len(),
+                identifier.as_ptr(), identifier.len(),
+                name.as_ptr(), name.len(),
+                space.as_mut_ptr(), space.len()
+            )
+        }
+    }
+    #[inline(always)]
+    #[rustfmt::skip] // Each pointer stands beside its length.
+    fn write_addresses(fields: &Fields, space: &mut [u8]) -> u32 {
+        let Fields { numbers, forms, kind, identifier, name } = fields;
+        unsafe {
+            with_forms!(
+                optes_6g1_write_addresses, numbers, forms,
+                forms[0].text.as_ptr(), forms[0].text.len(),
+                forms[1].text.as_ptr(), forms[1].text.len(),
                 kind.as_ptr(), kind.len(),
                 identifier.as_ptr(), identifier.len(),
                 name.as_ptr(), name.len(),

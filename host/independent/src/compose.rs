@@ -1,7 +1,8 @@
 //! Sessions for tests and comparisons, beginning from document 01's worked one.
 
+use crate::address::Address;
 use crate::announcement::TREASURY;
-use crate::application::{self, Draft, PLACES};
+use crate::application::{Draft, PLACES};
 use crate::award::Side;
 use crate::digits;
 use crate::envelope::push_field;
@@ -93,14 +94,15 @@ fn text(number: u64, width: usize) -> Vec<u8> {
     out
 }
 
-/// An application to the worked session's tender with bids from its first place on.
+/// An application to the worked session's tender with short addresses, and with bids from its first
+/// place on.
 pub fn draft(sender: u64, time: u64, bids: &[(u64, u64)]) -> Draft<'static> {
     let mut places = [(0, 0); PLACES];
     places[..bids.len()].copy_from_slice(bids);
     Draft {
         kind: b"6G1",
-        sender,
-        recipient: 1000,
+        sender: Address::short(sender),
+        recipient: Address::short(1000),
         cro: 1,
         date: 12_032_012,
         time,
@@ -113,7 +115,7 @@ pub fn draft(sender: u64, time: u64, bids: &[(u64, u64)]) -> Draft<'static> {
 
 /// The bytes of an application whose draft fits.
 pub fn written(draft: &Draft) -> Vec<u8> {
-    let mut message = vec![0; application::LENGTH];
+    let mut message = vec![0; draft.length()];
     draft.write(&mut message).expect("the draft fits a 6G1");
     message
 }

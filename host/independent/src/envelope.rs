@@ -28,6 +28,7 @@ pub const fn header(tag: u8, length: usize) -> [u8; HEADER] {
 }
 
 /// Whether the message has exactly these fields and nothing after them.
+#[inline(always)]
 pub fn has_layout(message: &[u8], layout: &Layout) -> bool {
     let mut start = 0;
     for &(tag, length) in layout {

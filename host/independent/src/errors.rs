@@ -6,7 +6,7 @@ use crate::digits;
 #[derive(Clone, Copy, Debug, PartialEq, Eq)]
 pub enum ApplicationError {
     OtherType,
-    SenderNotDigits,
+    SenderMalformed,
     SenderNotAdmitted,
     OtherRecipient,
     CroNotDigits,

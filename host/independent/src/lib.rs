@@ -1,5 +1,5 @@
-//! The OPTES tender book and its session log, written from document 01 and the reading of its open
-//! points in docs/DECISIONS.md, without a look at the Rattle sources.
+//! The OPTES tender book and its session log, written from document 01, request S-1 of document 02 and
+//! the reading of their open points in docs/DECISIONS.md, without a look at the Rattle sources.
 //!
 //! It shares no line with the proved crates, so that the two can be compared. `tender` has the
 //! calls of a tender, from opening to allotting, `session` logs whole sessions by them,
@@ -7,6 +7,7 @@
 //! has, `compose` makes sessions for tests.
 #![forbid(unsafe_code)]
 
+pub mod address;
 pub mod announcement;
 pub mod application;
 pub mod award;

@@ -10,8 +10,8 @@ use crate::errors::{Errors, LONGEST_TEXT};
 const WRONG: &[u8] = b"*** MESSAGGIO ERRATO ***";
 const ERRORS: u8 = 0x98;
 
-/// The bytes of the longest reply, RE01 with five errors.
-pub const LONGEST: usize = application::LENGTH + HEADER + WRONG.len() + HEADER + LONGEST_TEXT;
+/// The bytes of the longest reply, RE01 with five errors for a message with two long addresses.
+pub const LONGEST: usize = application::LONGEST + HEADER + WRONG.len() + HEADER + LONGEST_TEXT;
 
 /// Bytes that are put one after another from the start of a space.
 struct Writer<'a> {

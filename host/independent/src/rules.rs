@@ -11,7 +11,7 @@ use crate::errors::{ApplicationError as E, Errors};
 pub fn check_texts(terms: &Terms, application: &Application, errors: &mut Errors) {
     let field = |field| application.field(field);
     errors.add_if(E::OtherType, field(Field::Type) != b"6G1");
-    errors.add_if(E::OtherRecipient, field(Field::Recipient) != TREASURY);
+    errors.add_if(E::OtherRecipient, !field(Field::Recipient).starts_with(TREASURY));
     errors.add_if(E::CroNotDigits, !digits::are_digits(field(Field::Cro)));
     errors.add_if(E::CheckDigitNotDigits, !digits::are_digits(field(Field::CheckDigit)));
     errors.add_if(E::OtherIdentifier, field(Field::Identifier) != terms.identifier);

@@ -1,10 +1,10 @@
 //! A tender from its announcement to its awards.
 
+use crate::address::{self, Address};
 use crate::announcement::Terms;
 use crate::application::{Application, Field, PLACES};
 use crate::award::{Allotment, Bid, PlacedBid, POSITIONS};
 use crate::calendar::{Moment, Time};
-use crate::digits;
 use crate::errors::{ApplicationError as E, Errors};
 use crate::refusal::Refusal;
 use crate::reply;
@@ -44,6 +44,7 @@ pub struct Tender {
 /// What became of a message: it is accepted where there are no errors.
 #[derive(Clone, Copy, Debug)]
 pub struct Reception<'a> {
+    /// The first five bytes of the sender, which tell who it is.
     pub sender: &'a [u8],
     pub errors: Errors,
     /// How many bytes the reply has.
@@ -97,7 +98,8 @@ impl Tender {
         } else {
             reply::send_back(message, errors, space)
         };
-        Ok(Reception { sender: application.field(Field::Sender), errors, length })
+        let sender = address::first_five(application.field(Field::Sender));
+        Ok(Reception { sender, errors, length })
     }
 
     /// Collects the application's errors and, where there are none, holds its time and bids.
@@ -121,10 +123,10 @@ impl Tender {
         errors
     }
 
-    /// Where the sender stands in the book, or none with its error added.
+    /// Where the sender's code stands in the book, whatever its branch, or none with its error added.
     fn admitted(&self, application: &Application, errors: &mut Errors) -> Option<usize> {
-        let Some(code) = digits::number(application.field(Field::Sender)) else {
-            errors.add_if(E::SenderNotDigits, true);
+        let Some(Address { code, .. }) = application.sender() else {
+            errors.add_if(E::SenderMalformed, true);
             return None;
         };
         let position = self.position(code);

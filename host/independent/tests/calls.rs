@@ -200,8 +200,8 @@ fn re01_byte_for_byte_with_one_five_and_six_errors() {
     assert_eq!(one.reply.len(), 378);
 
     message.kind = b"XXX";
-    message.sender = 1;
-    message.recipient = 1;
+    message.sender.code = 1;
+    message.recipient.code = 1;
     message.date = 1;
     let five = receive_at(&mut worked(), (DAY, 103_000), &written(&message));
     let text = b"001 - 900/040 - 300/050 - 599/D31 - 502/6G6 - 905";
@@ -230,28 +230,28 @@ fn all_errors_at_once_are_fifteen() {
 }
 
 #[test]
-fn r11_a_space_of_417_bytes_is_refused_and_one_of_418_is_not() {
+fn r11_a_space_of_435_bytes_is_refused_and_one_of_436_is_not() {
     let mut tender = worked();
     let clock = Moment::of_numbers(DAY, 103_000);
     let message = application(&[BID]);
     let before = tender.clone();
-    for room in [0, 1, 59, 417] {
+    for room in [0, 1, 59, 418, 435] {
         let mut space = vec![MARK; room];
         let given = tender.receive(&message, clock, &mut space);
         assert_eq!(given.err(), Some(Refusal::ReplySpaceShort));
         assert_eq!(space, vec![MARK; room]);
         assert_eq!(tender, before);
     }
-    let mut space = [MARK; 418];
-    let given = tender.receive(&message, clock, &mut space).expect("418 bytes are enough");
+    let mut space = [MARK; 436];
+    let given = tender.receive(&message, clock, &mut space).expect("436 bytes are enough");
     assert_eq!(given.length, 59);
-    assert_eq!(space[59..], [MARK; 359]);
+    assert_eq!(space[59..], [MARK; 377]);
 }
 
 #[test]
 fn r11_stands_between_the_clock_and_the_envelope() {
     let refusal = |tender: &mut Tender, clock, message: &[u8]| {
-        tender.receive(message, clock, &mut [0; 417]).err()
+        tender.receive(message, clock, &mut [0; 435]).err()
     };
     let clock = Moment::of_numbers(DAY, 103_000);
     let mut tender = worked();

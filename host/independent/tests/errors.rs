@@ -60,13 +60,13 @@ fn e900_other_type() {
 fn e309_and_e300_sender() {
     assert_eq!(altered(SENDER, b"9000X"), "040 - 309");
     assert_eq!(altered(SENDER, b"     "), "040 - 309");
-    assert_eq!(drafted(|message| message.sender = 90_004), "040 - 300");
-    assert_eq!(drafted(|message| message.sender = 0), "040 - 300");
+    assert_eq!(drafted(|message| message.sender.code = 90_004), "040 - 300");
+    assert_eq!(drafted(|message| message.sender.code = 0), "040 - 300");
 }
 
 #[test]
 fn e599_recipient() {
-    assert_eq!(drafted(|message| message.recipient = 1001), "050 - 599");
+    assert_eq!(drafted(|message| message.recipient.code = 1001), "050 - 599");
     assert_eq!(altered(17, b"1000 "), "050 - 599");
 }
 
@@ -189,16 +189,16 @@ fn an_application_in_error_changes_nothing() {
 fn over_five_errors_end_with_999() {
     let five = drafted(|message| {
         message.kind = b"XXX";
-        message.sender = 1;
-        message.recipient = 1;
+        message.sender.code = 1;
+        message.recipient.code = 1;
         message.date = 1;
         message.time = 999_999;
     });
     assert_eq!(five, "001 - 900/040 - 300/050 - 599/D31 - 502/601 - 503");
     let six = drafted(|message| {
         message.kind = b"XXX";
-        message.sender = 1;
-        message.recipient = 1;
+        message.sender.code = 1;
+        message.recipient.code = 1;
         message.date = 1;
         message.time = 999_999;
         message.identifier = b"T/0000/0000";

@@ -1,6 +1,6 @@
 //! Reading a 6G1, writing one, and the trip there and back.
 
-use independent::application::{Application, Draft, Field, LENGTH};
+use independent::application::{Application, Draft, Field, SHORTEST};
 use independent::award::{Amount, Bid, Rate};
 use independent::compose::{draft, written};
 use independent::refusal::Refusal;
@@ -8,7 +8,7 @@ use independent::refusal::Refusal;
 fn full() -> Draft<'static> {
     let mut message = draft(99_999, 999_999, &[]);
     message.kind = b"\0x\xff";
-    message.recipient = 7;
+    message.recipient.code = 7;
     message.cro = 99_999_999_999;
     message.date = 99_999_999;
     message.check_digit = 12_345;
@@ -72,10 +72,10 @@ fn a_message_makes_the_trip_there_and_back() {
 
 #[test]
 fn bytes_past_a_written_message_stay() {
-    let mut space = [0xee; LENGTH + 4];
+    let mut space = [0xee; SHORTEST + 4];
     full().write(&mut space).unwrap();
-    assert_eq!(space[LENGTH..], [0xee; 4]);
-    assert_eq!(space[..LENGTH], written(&full()));
+    assert_eq!(space[SHORTEST..], [0xee; 4]);
+    assert_eq!(space[..SHORTEST], written(&full()));
 }
 
 #[test]
@@ -87,8 +87,8 @@ fn r17_what_does_not_fit() {
         assert_eq!(message.write(&mut space), Err(Refusal::Unfit));
         assert_eq!(space, [0xee; 10]);
     };
-    refused(&|message| message.sender = 100_000);
-    refused(&|message| message.recipient = 100_000);
+    refused(&|message| message.sender.code = 100_000);
+    refused(&|message| message.recipient.code = 100_000);
     refused(&|message| message.cro = 100_000_000_000);
     refused(&|message| message.date = 100_000_000);
     refused(&|message| message.time = 1_000_000);
@@ -103,7 +103,7 @@ fn r17_what_does_not_fit() {
 
 #[test]
 fn r18_too_little_space() {
-    let mut space = [0xee; LENGTH - 1];
+    let mut space = [0xee; SHORTEST - 1];
     assert_eq!(full().write(&mut space), Err(Refusal::OutputShort));
-    assert_eq!(space, [0xee; LENGTH - 1]);
+    assert_eq!(space, [0xee; SHORTEST - 1]);
 }

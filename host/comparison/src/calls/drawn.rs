@@ -1,10 +1,11 @@
 //! What the sequences must draw, for a book may be wrong just there.
 
+use crate::addresses::shown::is_long_announcement;
 use crate::calls::book::WORDS;
 use crate::calls::independent_book::IndependentBook;
 use crate::calls::layout::{self, AMOUNTS, CODES, COUNT, FORM, STATE};
-use crate::calls::padded::{self, Padded};
-use crate::calls::step::{Call, Step};
+use crate::calls::padded;
+use crate::calls::step::{Call, Given, Step};
 use crate::sessions::days::{day_after, day_before, seconds_away};
 use independent::application::Application;
 use independent::award::{Side, POSITIONS};
@@ -32,7 +33,7 @@ impl Drawn {
             let tender = layout::tender_of(before.first(WORDS));
             let given = step.call::<IndependentBook>(&mut words);
             if let Some(tender) = tender {
-                self.count_call(step, &tender, given.result, &given.awards);
+                self.count_call(step, &tender, &given);
             }
             if step.is_refused(given.result) {
                 words = before;
@@ -40,11 +41,14 @@ impl Drawn {
         }
     }
 
-    /// Counts arrays, words and damage.
+    /// Counts arrays, words, damage and announcements with a long address.
     fn count_lent(&mut self, step: &Step) {
         let set = |first: usize, last: usize| {
             step.sets.iter().any(|&(word, _)| (first..=last).contains(&word))
         };
+        let is_long = matches!(&step.call,
+            Call::Open { message, .. } if is_long_announcement(message));
+        self.add("an announcement with a long address", is_long);
         self.add("fewer words", step.words < WORDS);
         self.add("one word fewer", step.words == WORDS - 1);
         self.add("more words", step.words > WORDS);
@@ -57,12 +61,16 @@ impl Drawn {
         self.add("an array that is long", step.numbers > step.call.told());
     }
 
-    fn count_call(&mut self, step: &Step, tender: &Tender, result: u64, awards: &Padded<u64>) {
+    fn count_call(&mut self, step: &Step, tender: &Tender, given: &Given) {
+        let (result, reply) = (given.result, given.told.all().first().copied());
         match &step.call {
             Call::Receive { clock, message, space } => {
-                self.add("a space of 417", *space == 417);
-                self.add("a space of 418", *space == 418);
+                self.add("a space of 435", *space == 435);
+                self.add("a space of 436", *space == 436);
                 self.add("a space under 59", *space < 59);
+                self.add("a space that short addresses would do with", (418..436).contains(space));
+                self.add("a reply of 436 bytes", result == 0 && reply == Some(436));
+                self.add("a confirmation of 68 bytes", result == 0 && reply == Some(68));
                 self.count_clock(*clock, tender);
                 self.count_times(message, tender);
             }
@@ -70,7 +78,7 @@ impl Drawn {
                 self.add("room for fewer awards", *places < POSITIONS);
                 self.add("announced and allotted again", tender.state == State::Announced);
                 if result == 0 && *places >= POSITIONS {
-                    self.count_awards(tender, &awards.all()[..POSITIONS]);
+                    self.count_awards(tender, &given.awards.all()[..POSITIONS]);
                 }
             }
             Call::Revoke => self.add("revoked again", tender.state == State::Revoked),

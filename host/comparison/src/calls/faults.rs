@@ -3,9 +3,12 @@
 use crate::calls::book::{Book, NO_TENDER, OK, WORDS};
 use crate::calls::independent_book::IndependentBook as Right;
 use crate::calls::layout::{self, STATE};
+use crate::calls::script::parted::Parted;
+use independent::address::{first_five, Address};
+use independent::application::{Application, Field};
 
 /// The faults, by their numbers.
-pub const FAULTS: [&str; 10] = [
+pub const FAULTS: [&str; 13] = [
     "a byte of a confirmation is wrong",
     "a byte past a reply changes",
     "the time of an application with an error is held",
@@ -16,6 +19,9 @@ pub const FAULTS: [&str; 10] = [
     "the state is told of words that hold no tender",
     "a word past the tender changes",
     "a short array is told nothing",
+    "a long sender is answered as a short one",
+    "a malformed recipient is an error",
+    "a reply space of 418 bytes is enough",
 ];
 
 /// A book with the fault of this number.
@@ -23,16 +29,34 @@ pub struct Faulty<const FAULT: usize>;
 
 /// Holds the time of the message's reference for its sender, whatever became of it.
 fn hold_time(words: &mut [u64], message: &[u8]) {
-    let number = |start: usize, end: usize| -> Option<u64> {
-        std::str::from_utf8(&message[start..end]).ok()?.parse().ok()
-    };
     let Some(mut tender) = layout::tender_of(words) else { return };
-    let (Some(code), Some(time)) = (number(9, 14), number(50, 56)) else { return };
-    let time = independent::calendar::Time::of_number(time);
-    for holding in tender.book.iter_mut().filter(|holding| u64::from(holding.code) == code) {
+    let Ok(read) = Application::read(message) else { return };
+    let (code, time) = (read.number(Field::Sender), read.number(Field::ReferenceTime));
+    let time = time.and_then(independent::calendar::Time::of_number);
+    for holding in tender.book.iter_mut().filter(|holding| Some(u64::from(holding.code)) == code) {
         holding.time = holding.time.max(time);
     }
     layout::put_changed(words, &tender);
+}
+
+/// The message as a book with the fault takes it.
+fn taken<const FAULT: usize>(message: &[u8]) -> Vec<u8> {
+    let Some(mut parted) = Parted::of(message) else { return message.to_vec() };
+    match FAULT {
+        10 => parted.sender = first_five(&parted.sender).to_vec(),
+        11 if Address::read(&parted.recipient).is_none() => parted.recipient[0] = b'x',
+        _ => (),
+    }
+    parted.joined()
+}
+
+/// The space as a book with the fault takes it.
+fn wide_enough<const FAULT: usize>(space: &[u8]) -> Vec<u8> {
+    let mut space = space.to_vec();
+    if FAULT == 12 && space.len() >= 418 {
+        space.resize(500, 0);
+    }
+    space
 }
 
 /// Takes a cent from the first award that a rate's last bid can have it from.
@@ -62,7 +86,9 @@ impl<const FAULT: usize> Book for Faulty<FAULT> {
         told: &mut [u64],
     ) -> u64 {
         let mut all = [0; 18];
-        let result = Right::receive(words, message, clock, space, &mut all);
+        let mut own = wide_enough::<FAULT>(space);
+        let result = Right::receive(words, &taken::<FAULT>(message), clock, &mut own, &mut all);
+        space.copy_from_slice(&own[..space.len()]);
         let length = all[0] as usize;
         let count = told.len().min(all.len());
         if result == OK && !(FAULT == 9 && told.len() < all.len()) {

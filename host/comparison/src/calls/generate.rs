@@ -165,7 +165,7 @@ impl Sequence<'_> {
             3 | 4 => Call::Revoke,
             5..=7 => Call::Allot { places: twist::places(self.random) },
             8 => {
-                let message = vec![b'0'; self.random.pick(&[0, 1, 338, 339, 340, 678])];
+                let message = vec![b'0'; self.random.pick(&[0, 1, 338, 339, 340, 348, 357, 678])];
                 Call::Receive { clock, message, space: twist::space(self.random) }
             }
             9 => Call::Open { codes, message: Vec::new() },

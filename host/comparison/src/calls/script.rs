@@ -6,8 +6,9 @@
 //!   announce KEY VALUE ..          opens a tender with the worked example's announcement and the
 //!                                  keys' values: host/compose's keys, and letter, Y or N
 //!   open BYTES ..                  opens a tender with any announcement
-//!   apply DATE TIME CODE REFTIME RATE/AMOUNT .. KEY VALUE ..
-//!                                  receives an application: host/compose's keys
+//!   apply DATE TIME SENDER REFTIME RATE/AMOUNT .. KEY VALUE ..
+//!                                  receives an application: host/compose's keys; SENDER and the
+//!                                  recipient are CODE, or CODE/NUMBER/TEXT for a branch
 //!   receive DATE TIME BYTES ..     receives any message
 //!   close DATE TIME, allot, revoke
 //!   state, terms, codes, held CODE what the calls tell that change nothing
@@ -25,6 +26,7 @@
 
 pub mod keys;
 mod line;
+pub mod parted;
 mod read;
 mod write;
 
@@ -38,6 +40,7 @@ pub const SPACE: usize = 500;
 mod tests {
     use super::*;
     use crate::calls::generate;
+    use crate::calls::step::{Call, Step};
 
     #[test]
     fn a_written_script_reads_back() {
@@ -55,7 +58,7 @@ mod tests {
 admit 90001 90002
 announce offered 15000
 
-apply 12032012 103000 90001 100000 150000/10000 cro 7 space 417
+apply 12032012 103000 90001 100000 150000/10000 cro 7 space 435
 close 12032012 110001 words 1495 set 1/4
 held 90001 numbers 3
 ";
@@ -63,6 +66,26 @@ held 90001 numbers 3
             text(&steps(script).unwrap()),
             script.replace("# The worked tender.\n", "").replace("\n\n", "\n")
         );
+    }
+
+    #[test]
+    fn long_addresses_are_written_with_their_slashes() {
+        let script = "\
+apply 12032012 103000 90001/00012/AB 100000 150000/10000 recipient 01000/99999/// cro 7
+apply 12032012 103000 \"90001/12345/A \" 100000
+apply 12032012 103000 90001 100000 recipient 01001
+";
+        let read = steps(script).unwrap();
+        assert_eq!(text(&read), script);
+        let sender = |step: &Step| match &step.call {
+            Call::Receive { message, .. } => (message.len(), message[9..23].to_vec()),
+            _ => unreachable!("each step is a reception"),
+        };
+        assert_eq!(sender(&read[0]), (357, b"90001/00012/AB".to_vec()));
+        assert_eq!(sender(&read[1]), (348, b"90001/12345/A ".to_vec()));
+        let narrow = "apply 12032012 103000 1/2/AB 100000 recipient 1000/3/CD\n";
+        let whole = "apply 12032012 103000 00001/00002/AB 100000 recipient 01000/00003/CD\n";
+        assert_eq!(text(&steps(narrow).unwrap()), whole);
     }
 
     #[test]
@@ -79,6 +102,12 @@ held 90001 numbers 3
             ("receive 12032012 110000 \"0", "line 1: a text has no end"),
             ("announce most 123", "line 1: 123 does not fit most"),
             ("apply 12032012 110000 1 2 3/4/5", "line 1: 3/4/5 is not RATE/AMOUNT"),
+            ("apply 12032012 110000 1/2/ABC 2", "line 1: 1/2/ABC is not CODE/NUMBER/TEXT"),
+            ("apply 12032012 110000 1/100000/AB 2", "line 1: 1/100000/AB is not CODE/NUMBER/TEXT"),
+            (
+                "apply 12032012 110000 1 2 recipient +1/2/AB",
+                "line 1: +1/2/AB is not CODE/NUMBER/TEXT",
+            ),
         ] {
             assert_eq!(steps(script), Err(told.to_string()));
         }

@@ -3,8 +3,10 @@
 use crate::calls::book::{Book, WORDS};
 use crate::calls::reduce::difference;
 use crate::calls::script::keys::{self, Key};
+use crate::calls::script::parted::Parted;
 use crate::calls::script::SPACE;
 use crate::calls::step::{Call, Step};
+use independent::address::{first_five, LONG};
 use independent::application::PLACES;
 use independent::award::POSITIONS;
 
@@ -60,13 +62,36 @@ fn simpler_calls(call: &Call) -> Vec<Call> {
         }
         Call::Receive { clock, message, space } => {
             let with = |message, space| Call::Receive { clock: *clock, message, space };
-            let messages = nearer(message, &keys::application(), &application_keys()).into_iter();
+            let messages = nearer_applications(message).into_iter();
             let messages = messages.map(|message| with(message, *space));
             messages.chain([with(message.clone(), SPACE)]).collect()
         }
         Call::Allot { .. } => vec![Call::Allot { places: POSITIONS }],
         _ => Vec::new(),
     }
+}
+
+/// The application with simpler addresses, and with the worked example's value for each of the keys.
+fn nearer_applications(message: &[u8]) -> Vec<Vec<u8>> {
+    let (worked, keys) = (Parted::worked(), application_keys());
+    let Some(parted) = Parted::of(message) else { return nearer(message, &worked.message, &keys) };
+    let senders = simpler_addresses(&parted.sender).into_iter();
+    let senders = senders.map(|sender| Parted { sender, ..parted.clone() });
+    let recipients = simpler_addresses(&parted.recipient).into_iter().chain([worked.recipient]);
+    let recipients = recipients.map(|recipient| Parted { recipient, ..parted.clone() });
+    let messages = nearer(&parted.message, &worked.message, &keys).into_iter();
+    let others = messages.map(|message| Parted { message, ..parted.clone() });
+    senders.chain(recipients).chain(others).map(|parted| parted.joined()).collect()
+}
+
+/// The short form of an address, and of a long one that with the plainest branch.
+fn simpler_addresses(address: &[u8]) -> Vec<Vec<u8>> {
+    let code = first_five(address);
+    let mut simpler = vec![code.to_vec()];
+    if address.len() == LONG {
+        simpler.push([code, b"/00000/AB"].concat());
+    }
+    simpler
 }
 
 /// The keys of an application and those of its places.

@@ -1,8 +1,10 @@
 //! What the compared calls showed.
 
-use crate::calls::book::NO_TENDER;
+use crate::addresses::shown::{Shown, NAMES};
+use crate::calls::book::{ANSWER_NUMBERS, NO_TENDER, OK};
 use crate::calls::run::Seen;
 use crate::calls::step::{Call, Step, KINDS};
+use independent::application::Application;
 use std::collections::BTreeMap;
 
 /// Every error code of a message, in the order in which errors are collected.
@@ -11,11 +13,12 @@ const ERRORS: [u64; 19] =
 /// The last refusal of a call on a tender.
 const LAST_REFUSAL: u64 = 16;
 
-/// How often each kind of call, each refusal and each error was seen.
+/// How often each kind of call, each refusal, each error and what addresses can show was seen.
 #[derive(Default)]
 pub struct Tally {
     pub sequences: u64,
     pub calls: u64,
+    addresses: Shown,
     counts: BTreeMap<String, u64>,
 }
 
@@ -37,6 +40,23 @@ impl Tally {
             self.add(refusal_name(seen.result));
         }
         seen.errors.iter().for_each(|&code| self.add(error_name(code)));
+        self.count_addresses(step, seen);
+    }
+
+    /// Counts what the addresses of a reception show whose errors were all told.
+    fn count_addresses(&mut self, step: &Step, seen: &Seen) {
+        match &step.call {
+            Call::Open { .. } if seen.result == OK => self.addresses.open(),
+            Call::Receive { message, .. }
+                if seen.result == OK && step.numbers >= ANSWER_NUMBERS =>
+            {
+                let Ok(application) = Application::read(message) else { return };
+                let shown = self.addresses.of(&application, &seen.errors);
+                let names = NAMES.into_iter().zip(shown).filter(|&(_, is_so)| is_so);
+                names.for_each(|(name, _)| self.add(name.to_string()));
+            }
+            _ => (),
+        }
     }
 
     fn add(&mut self, name: String) {
@@ -61,9 +81,11 @@ impl Tally {
     }
 }
 
-/// The names of all kinds of call, refusals and errors.
+/// The names of all kinds of call, of refusals, of errors and of what addresses can show.
 fn all() -> Vec<String> {
     let kinds = KINDS.iter().map(|kind| kind.to_string());
     let refusals = (1..=LAST_REFUSAL).chain([NO_TENDER]).map(refusal_name);
-    kinds.chain(refusals).chain(ERRORS.into_iter().map(error_name)).collect()
+    let errors = ERRORS.into_iter().map(error_name);
+    let addresses = NAMES.iter().map(|name| name.to_string());
+    kinds.chain(refusals).chain(errors).chain(addresses).collect()
 }

@@ -8,7 +8,7 @@ use crate::random::Random;
 use independent::award::POSITIONS;
 
 /// The least reply space.
-pub const LEAST_SPACE: usize = 418;
+pub const LEAST_SPACE: usize = 436;
 
 /// A reply space, mostly long enough.
 pub fn space(random: &mut Random) -> usize {
@@ -16,7 +16,7 @@ pub fn space(random: &mut Random) -> usize {
         0 => LEAST_SPACE - 1,
         1..=4 => LEAST_SPACE,
         5 => random.index(501),
-        6 => random.pick(&[0, 1, 58, 59, 60, 339, 366, 378, 416, 419]),
+        6 => random.pick(&[0, 1, 58, 59, 60, 67, 68, 69, 339, 357, 378, 396, 418, 434, 437]),
         _ => 500,
     }
 }

@@ -4,9 +4,10 @@ use crate::interface::{Fields, Independent, Interface};
 use crate::library::Library;
 use crate::measure::table::print_nanoseconds;
 use crate::measure::timing::alternate;
-use crate::messages::generate::Parts;
+use crate::messages::generate::{FormParts, Parts};
 use crate::random::Random;
-use independent::application::{LENGTH, PLACES};
+use independent::address::TEXT_BYTES;
+use independent::application::{LONGEST, PLACES, SHORTEST};
 use independent::interface::NUMBERS;
 use std::convert::Infallible;
 use std::hint::black_box;
@@ -22,11 +23,20 @@ const DIGIT_FIELDS: [u32; 6] = [1, 2, 3, 4, 5, 6];
 struct Application {
     numbers: [u64; 6],
     has_number: [u32; 6],
+    branches: [Branch; 2],
     places: [Place; PLACES],
     kind: [u8; 3],
     identifier: [u8; 11],
     name: [u8; 15],
     unread: u32,
+}
+
+/// What a long address has after its code.
+#[derive(Default, PartialEq)]
+struct Branch {
+    is_long: u32,
+    number: u64,
+    text: [u8; TEXT_BYTES],
 }
 
 #[derive(Default, PartialEq)]
@@ -56,6 +66,9 @@ impl Application {
         self.identifier.copy_from_slice(&message[identifier..][..11]);
         self.name.copy_from_slice(&message[name..][..15]);
         self.count_unread();
+        for (branch, triple) in self.branches.iter_mut().zip(numbers[45..].chunks_exact(3)) {
+            branch.read(message, triple);
+        }
         0
     }
 
@@ -88,6 +101,17 @@ impl Application {
         let places = self.places.iter().map(|place| place.well_formed);
         let found: u32 = self.has_number.iter().copied().chain(places).sum();
         self.unread = (DIGIT_FIELDS.len() + PLACES) as u32 - found;
+    }
+}
+
+impl Branch {
+    /// Takes the numbers of an address, and the text of one that is long.
+    fn read(&mut self, message: &[u8], numbers: &[u64]) {
+        self.is_long = numbers[0] as u32;
+        self.number = numbers[1];
+        if self.is_long == 1 {
+            self.text.copy_from_slice(&message[numbers[2] as usize..][..TEXT_BYTES]);
+        }
     }
 }
 
@@ -130,9 +154,17 @@ fn numbers_alone<I: Interface>(messages: &[Vec<u8>]) {
 }
 
 fn write_all<I: Interface>(inputs: &[Fields]) {
-    let mut space = [0; LENGTH];
+    let mut space = [0; SHORTEST];
     for fields in inputs {
         black_box(I::write(black_box(fields), &mut space));
+        black_box(&space);
+    }
+}
+
+fn write_all_long<I: Interface>(inputs: &[Fields]) {
+    let mut space = [0; LONGEST];
+    for fields in inputs {
+        black_box(I::write_addresses(black_box(fields), &mut space));
         black_box(&space);
     }
 }
@@ -157,16 +189,10 @@ fn measure<T: ?Sized>(
 /// Whether both sides read and write the input alike.
 fn agree(messages: &[Vec<u8>], inputs: &[Fields]) -> bool {
     messages.iter().zip(inputs).all(|(message, fields)| {
-        let (mut library, mut independent) = (Application::default(), Application::default());
-        let mut singly = Application::default();
-        let (mut written, mut expected) = ([0; LENGTH], [1; LENGTH]);
-        library.read::<Library>(message) == 0
-            && independent.read::<Independent>(message) == 0
-            && library == independent
-            && singly.read_singly::<Library>(message) == 0
-            && library == singly
-            && singly.read_singly::<Independent>(message) == 0
-            && library == singly
+        let (mut written, mut expected) = ([0; SHORTEST], [1; SHORTEST]);
+        read_alike(message)
+            && read_singly_alike::<Library>(message)
+            && read_singly_alike::<Independent>(message)
             && Library::write(fields, &mut written) == 0
             && Independent::write(fields, &mut expected) == 0
             && written == expected
@@ -174,10 +200,49 @@ fn agree(messages: &[Vec<u8>], inputs: &[Fields]) -> bool {
     })
 }
 
+/// Whether both sides read and write messages with two long addresses alike.
+fn agree_long(messages: &[Vec<u8>], inputs: &[Fields]) -> bool {
+    messages.iter().zip(inputs).all(|(message, fields)| {
+        let (mut written, mut expected) = ([0; LONGEST], [1; LONGEST]);
+        read_alike(message)
+            && Library::write_addresses(fields, &mut written) == 0
+            && Independent::write_addresses(fields, &mut expected) == 0
+            && written == expected
+            && written[..] == message[..]
+    })
+}
+
+fn read_alike(message: &[u8]) -> bool {
+    let (mut library, mut independent) = (Application::default(), Application::default());
+    library.read::<Library>(message) == 0
+        && independent.read::<Independent>(message) == 0
+        && library == independent
+}
+
+/// Whether single calls read what one call does.
+fn read_singly_alike<I: Interface>(message: &[u8]) -> bool {
+    let (mut at_once, mut singly) = (Application::default(), Application::default());
+    at_once.read::<I>(message) == 0 && singly.read_singly::<I>(message) == 0 && at_once == singly
+}
+
+/// Parts of messages that are all of one form.
+fn parts(random: &mut Random, form: fn(&mut Random) -> FormParts) -> Vec<Parts> {
+    let mut part = || {
+        let forms = [form(random), form(random)];
+        Parts::of_forms(random, forms)
+    };
+    (0..MESSAGES).map(|_| part()).collect()
+}
+
 /// Measures reading and writing, or tells that the two sides do not agree.
 pub fn measure_calls() -> Result<(), String> {
-    let random = &mut Random::new(6);
-    let parts: Vec<Parts> = (0..MESSAGES).map(|_| Parts::sound(random)).collect();
+    measure_short()?;
+    measure_long()
+}
+
+/// Measures messages of 339 bytes.
+fn measure_short() -> Result<(), String> {
+    let parts = parts(&mut Random::new(6), FormParts::short);
     let inputs: Vec<Fields> = parts.iter().map(Parts::fields).collect();
     let messages: Vec<Vec<u8>> = parts.iter().map(Parts::message).collect();
     if !agree(&messages, &inputs) {
@@ -199,5 +264,22 @@ pub fn measure_calls() -> Result<(), String> {
     measure(number, m, counts, numbers_alone::<Library>, numbers_alone::<Independent>);
     let write = "a 6G1 written by optes_6g1_write";
     measure(write, &inputs[..], (100, MESSAGES), write_all::<Library>, write_all::<Independent>);
+    Ok(())
+}
+
+/// Measures messages of 357 bytes, whose addresses are both long.
+fn measure_long() -> Result<(), String> {
+    let parts = parts(&mut Random::new(6), FormParts::long);
+    let inputs: Vec<Fields> = parts.iter().map(Parts::fields).collect();
+    let messages: Vec<Vec<u8>> = parts.iter().map(Parts::message).collect();
+    if !agree_long(&messages, &inputs) {
+        return Err("the library and the independent calls differ on long addresses".to_string());
+    }
+    let m = &messages[..];
+    let all = "a 6G1 of 357 bytes read as optes_application_read does";
+    measure(all, m, (300, MESSAGES), read_all::<Library>, read_all::<Independent>);
+    let write = "a 6G1 of 357 bytes by optes_6g1_write_addresses";
+    let counts = (100, MESSAGES);
+    measure(write, &inputs[..], counts, write_all_long::<Library>, write_all_long::<Independent>);
     Ok(())
 }

@@ -3,26 +3,31 @@
 use crate::damage::{change_length, double_field, fields_of, flip_bit, put_near, swap_fields};
 use crate::messages::generate::any_bytes;
 use crate::random::Random;
+use independent::address::{LONG, SHORT};
 use independent::envelope::HEADER;
 use std::ops::Range;
 
-/// Where the digit fields stand in a whole message.
-const DIGITS: [Range<usize>; 6] = [9..14, 17..22, 25..36, 39..47, 50..56, 59..64];
-const IDENTIFIER: Range<usize> = 67..78;
-const BIDS: Range<usize> = 81..321;
-const HEADS: [usize; 10] = [0, 6, 14, 22, 36, 47, 56, 64, 78, 321];
+/// The fields by their numbers.
+const FIELDS: usize = 10;
+const ADDRESSES: [usize; 2] = [1, 2];
+const DIGITS: [usize; 6] = [1, 2, 3, 4, 5, 6];
+const IDENTIFIER: usize = 7;
+const BIDS: usize = 8;
 
 /// A change to a message.
 pub type Change = fn(&mut Random, &mut Vec<u8>);
 
 /// Every kind of damage, with its name.
-pub const KINDS: [(&str, Change); 17] = [
+pub const KINDS: [(&str, Change); 20] = [
     ("sound", |_, _| ()),
     ("bits flipped", flip_bits),
     ("digit fields spoiled", |random, message| spoil_digits(random, message)),
     ("places spoiled", |random, message| spoil_places(random, message)),
     ("slash spoiled", |random, message| spoil_slash(random, message)),
     ("identifier spoiled", |random, message| put_within(random, message, IDENTIFIER)),
+    ("address spoiled", |random, message| spoil_address(random, message)),
+    ("address's length told otherwise", |random, message| tell_otherwise(random, message)),
+    ("addresses' lengths exchanged", |_, message| exchange_lengths(message)),
     ("head spoiled", |random, message| spoil_head(random, message)),
     ("cut", cut),
     ("fields swapped", |random, message| if_any(message, |m| swap_fields(random, m))),
@@ -50,10 +55,43 @@ fn if_any(message: &mut Vec<u8>, change: impl FnOnce(&mut Vec<u8>)) {
     }
 }
 
-/// Puts a near byte into this range, where the message still has it.
-fn put_within(random: &mut Random, message: &mut [u8], range: Range<usize>) {
-    if let Some(part) = message.get_mut(range) {
-        put_near(random, part);
+/// Where the contents of a field are, as far as the heads before it tell.
+fn contents(message: &[u8], field: usize) -> Option<Range<usize>> {
+    let fields = fields_of(message);
+    let start = fields.iter().take(field).map(|field| field.len()).sum::<usize>();
+    let length = fields.get(field)?.len();
+    (length > HEADER).then_some(start + HEADER..start + length)
+}
+
+/// Puts a near byte into this field, where the message still has it.
+fn put_within(random: &mut Random, message: &mut [u8], field: usize) {
+    if let Some(range) = contents(message, field) {
+        put_near(random, &mut message[range]);
+    }
+}
+
+/// Puts a near byte after the code of an address, where it is long.
+fn spoil_address(random: &mut Random, message: &mut [u8]) {
+    let field = random.pick(&ADDRESSES);
+    let Some(range) = contents(message, field) else { return };
+    let after_code = range.start + SHORT..range.end;
+    put_near(random, &mut message[if after_code.is_empty() { range } else { after_code }]);
+}
+
+/// Has the head of an address tell the other of its two lengths.
+fn tell_otherwise(random: &mut Random, message: &mut [u8]) {
+    let field = random.pick(&ADDRESSES);
+    if let Some(range) = contents(message, field) {
+        let told = &mut message[range.start - 1];
+        *told = if *told == SHORT as u8 { LONG as u8 } else { SHORT as u8 };
+    }
+}
+
+/// Has the head of each address tell the length of the other.
+fn exchange_lengths(message: &mut [u8]) {
+    let places = ADDRESSES.map(|field| contents(message, field).map(|range| range.start - 1));
+    if let [Some(sender), Some(recipient)] = places {
+        message.swap(sender, recipient);
     }
 }
 
@@ -65,8 +103,8 @@ fn flip_bits(random: &mut Random, message: &mut Vec<u8>) {
 
 fn spoil_digits(random: &mut Random, message: &mut [u8]) {
     for _ in 0..random.pick(&[1, 1, 2, 6]) {
-        let field = random.index(DIGITS.len());
-        put_within(random, message, DIGITS[field].clone());
+        let field = random.pick(&DIGITS);
+        put_within(random, message, field);
     }
 }
 
@@ -77,24 +115,24 @@ fn spoil_places(random: &mut Random, message: &mut [u8]) {
 }
 
 fn spoil_slash(random: &mut Random, message: &mut [u8]) {
-    let slash = BIDS.start + 24 * random.index(10) + 8;
-    put_within(random, message, slash..slash + 1);
+    let slash = 24 * random.index(10) + 8;
+    if let Some(byte) = contents(message, BIDS).and_then(|bids| message[bids].get_mut(slash)) {
+        put_near(random, std::slice::from_mut(byte));
+    }
 }
 
 fn spoil_head(random: &mut Random, message: &mut [u8]) {
-    let byte = random.pick(&HEADS) + random.index(HEADER);
-    if let Some(byte) = message.get_mut(byte) {
-        *byte = random.pick(&[0, 1, byte.wrapping_add(1), byte.wrapping_sub(1), 0xff]);
-    }
+    let Some(range) = contents(message, random.index(FIELDS)) else { return };
+    let byte = &mut message[range.start - HEADER + random.index(HEADER)];
+    *byte = random.pick(&[0, 1, byte.wrapping_add(1), byte.wrapping_sub(1), 0xff]);
 }
 
 /// Cuts the message before, within or after a head, or within or after a field's contents.
 fn cut(random: &mut Random, message: &mut Vec<u8>) {
-    let field = random.index(HEADS.len());
-    let start = HEADS[field];
-    let end = HEADS.get(field + 1).copied().unwrap_or(message.len().max(start + HEADER + 1));
-    let within = start + HEADER + random.index((end - start - HEADER).max(1));
-    let places = [start, start + 1, start + 2, start + HEADER, within, end - 1];
+    let Some(range) = contents(message, random.index(FIELDS)) else { return };
+    let start = range.start - HEADER;
+    let within = range.start + random.index(range.len());
+    let places = [start, start + 1, start + 2, range.start, within, range.end - 1];
     message.truncate(random.pick(&places));
 }
 
@@ -131,6 +169,6 @@ fn move_byte(random: &mut Random, message: &mut Vec<u8>) {
 }
 
 fn put_any_bytes(random: &mut Random, message: &mut Vec<u8>) {
-    let length = random.pick(&[1, 3, 225, 338, 339, 339, 340]);
+    let length = random.pick(&[1, 3, 225, 316, 317, 338, 339, 340, 348, 357, 358]);
     *message = any_bytes(random, length);
 }

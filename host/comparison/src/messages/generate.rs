@@ -1,8 +1,10 @@
 //! Messages, and the numbers and texts that they are written from.
 
-use crate::interface::{Fields, NUMBERS};
+use crate::addresses;
+use crate::interface::{AddressForm, Fields, NUMBERS};
 use crate::messages::damage;
 use crate::random::Random;
+use independent::address::{Address, LONG, SHORT};
 use independent::application::{Draft, PLACES};
 use independent::compose::written;
 
@@ -40,23 +42,76 @@ pub fn case(seed: u64) -> Case {
     Case { damage, message }
 }
 
+/// The form of an address, with a length that it may not have and a text of any length.
+pub struct FormParts {
+    pub length: u64,
+    pub branch: u64,
+    pub text: Vec<u8>,
+}
+
+impl FormParts {
+    /// The short form, often with a number and a text that it does not look at.
+    pub fn short(random: &mut Random) -> FormParts {
+        let unseen = random.index(4);
+        let branch = random.pick(&[0, 99_999, 100_000, u64::MAX]);
+        FormParts { length: SHORT as u64, branch, text: any_bytes(random, unseen) }
+    }
+
+    /// The long form.
+    pub fn long(random: &mut Random) -> FormParts {
+        let text = addresses::text(random).to_vec();
+        FormParts { length: LONG as u64, branch: number(random, 5), text }
+    }
+
+    /// Either form, about a third of them long.
+    fn either(random: &mut Random) -> FormParts {
+        if random.one_in(3) {
+            FormParts::long(random)
+        } else {
+            FormParts::short(random)
+        }
+    }
+
+    fn form(&self) -> AddressForm<'_> {
+        AddressForm { length: self.length, branch: self.branch, text: &self.text }
+    }
+
+    /// The address with this code.
+    fn address(&self, code: u64) -> Address<'_> {
+        if self.length == LONG as u64 {
+            Address::long(code, self.branch, &self.text)
+        } else {
+            Address::short(code)
+        }
+    }
+}
+
 /// What a message is written from, with texts of any length.
 pub struct Parts {
     pub numbers: [u64; NUMBERS],
+    /// The forms of the sender and of the recipient.
+    pub forms: [FormParts; 2],
     pub kind: Vec<u8>,
     pub identifier: Vec<u8>,
     pub name: Vec<u8>,
 }
 
 impl Parts {
-    /// Parts that can be written.
+    /// Parts that can be written, each address in either form.
     pub fn sound(random: &mut Random) -> Parts {
+        let forms = [FormParts::either(random), FormParts::either(random)];
+        Parts::of_forms(random, forms)
+    }
+
+    /// Parts that can be written, with addresses of these forms.
+    pub fn of_forms(random: &mut Random, forms: [FormParts; 2]) -> Parts {
         let mut identifier = b"T/0000/0000".to_vec();
         for index in [2, 3, 4, 5, 7, 8, 9, 10] {
             identifier[index] = random.pick(b"0123456789");
         }
         Parts {
             numbers: WIDTHS.map(|width| number(random, width)),
+            forms,
             kind: if random.one_in(2) { b"6G1".to_vec() } else { any_bytes(random, 3) },
             identifier,
             name: match random.below(4) {
@@ -68,8 +123,9 @@ impl Parts {
     }
 
     pub fn fields(&self) -> Fields<'_> {
-        let Parts { numbers, kind, identifier, name } = self;
-        Fields { numbers: *numbers, kind, identifier, name }
+        let Parts { numbers, forms: [sender, recipient], kind, identifier, name } = self;
+        let forms = [sender.form(), recipient.form()];
+        Fields { numbers: *numbers, forms, kind, identifier, name }
     }
 
     /// The message, written by the plain form of the independent implementation.
@@ -77,8 +133,8 @@ impl Parts {
         let [sender, recipient, cro, date, time, check_digit, bids @ ..] = self.numbers;
         written(&Draft {
             kind: &self.kind,
-            sender,
-            recipient,
+            sender: self.forms[0].address(sender),
+            recipient: self.forms[1].address(recipient),
             cro,
             date,
             time,

@@ -1,14 +1,17 @@
 //! The comparison of the calls that read.
 
 use crate::difference::{same, Difference};
-use crate::interface::{Fields, Independent, Interface, NUMBERS};
+use crate::interface::{AddressForm, Fields, Independent, Interface, NUMBERS};
 use crate::library::Library;
 use crate::messages::tally::{Outcome, Tally, DIGIT_FIELDS};
 use crate::random::Random;
+use independent::address::{LONG, TEXT_BYTES};
 use independent::application::{is_identifier, PLACES};
 use independent::interface::NUMBERS as NUMBERS_READ;
 
 const TYPE: u32 = 0;
+const SENDER: u32 = 1;
+const RECIPIENT: u32 = 2;
 const IDENTIFIER: u32 = 7;
 const NAME: u32 = 9;
 
@@ -83,7 +86,17 @@ pub fn fields<I: Interface>(message: &[u8]) -> Fields<'_> {
         6..=15 => u64::from(I::rate(message, index as u32 - 6)),
         _ => I::amount(message, index as u32 - 16),
     });
-    Fields { numbers, kind: text(TYPE), identifier: text(IDENTIFIER), name: text(NAME) }
+    let forms = [SENDER, RECIPIENT].map(|field| form::<I>(message, field, text(field)));
+    Fields { numbers, forms, kind: text(TYPE), identifier: text(IDENTIFIER), name: text(NAME) }
+}
+
+/// The form of an address, with the text of a long one also where it was not read.
+fn form<'a, I: Interface>(message: &[u8], field: u32, address: &'a [u8]) -> AddressForm<'a> {
+    let mut numbers = [0; NUMBERS_READ];
+    I::numbers(message, &mut numbers);
+    let text = if address.len() == LONG { &address[LONG - TEXT_BYTES..] } else { b"" };
+    let branch = numbers[if field == SENDER { 46 } else { 49 }];
+    AddressForm { length: address.len() as u64, branch, text }
 }
 
 /// Whether the message is readable and its digit fields, places and identifier are well formed.
@@ -100,6 +113,7 @@ pub fn count(message: &[u8], tally: &mut Tally) {
         return tally.add(Outcome::Unreadable);
     }
     tally.add(Outcome::Readable);
+    count_forms(message, tally);
     for field in DIGIT_FIELDS {
         let has = Independent::has_number(message, field) == 1;
         tally.add(if has { Outcome::Number(field) } else { Outcome::NoNumber(field) });
@@ -113,5 +127,17 @@ pub fn count(message: &[u8], tally: &mut Tally) {
     }
     if !is_identifier(fields::<Independent>(message).identifier) {
         tally.add(Outcome::MalformedIdentifier);
+    }
+}
+
+/// Counts the forms of the addresses, and those of the long ones that are read and that are not.
+fn count_forms(message: &[u8], tally: &mut Tally) {
+    let lengths = [SENDER, RECIPIENT].map(|field| Independent::length(message, field));
+    tally.add(Outcome::Lengths(lengths[0], lengths[1]));
+    for field in [SENDER, RECIPIENT] {
+        if Independent::length(message, field) == LONG {
+            let has = Independent::has_number(message, field) == 1;
+            tally.add(if has { Outcome::Branch(field) } else { Outcome::NoBranch(field) });
+        }
     }
 }

@@ -3,7 +3,7 @@
 use crate::difference::{hex, same, Difference};
 use crate::interface::{Fields, Independent, Interface};
 use crate::library::Library;
-use independent::application::LENGTH;
+use independent::application::SHORTEST;
 
 /// How many bytes before and after the space are watched.
 const MARGIN: usize = 16;
@@ -14,26 +14,42 @@ pub struct Written {
     pub space: Vec<u8>,
 }
 
-/// Writes the fields to a space of this length by both, and compares answers and all bytes.
+/// A call that writes.
+type Write = fn(&Fields, &mut [u8]) -> u32;
+
+/// Writes the fields to a space of this length by both, in the short form and in their own forms,
+/// and compares answers and all bytes; what is given back is that of their own forms.
 pub fn write(fields: &Fields, length: usize) -> Result<Written, Difference> {
+    let calls: [Write; 2] = [Library::write, Independent::write];
+    compare("write", calls, fields, (length, SHORTEST))?;
+    let calls: [Write; 2] = [Library::write_addresses, Independent::write_addresses];
+    // Where the forms have other lengths nothing is written.
+    let own = fields.forms.iter().all(|form| matches!(form.length, 5 | 14));
+    compare("write_addresses", calls, fields, (length, if own { fields.length() } else { 0 }))
+}
+
+/// Compares a call that writes so many bytes, where it writes, to a space of this length.
+fn compare(
+    name: &str,
+    [library, independent]: [Write; 2],
+    fields: &Fields,
+    (length, message): (usize, usize),
+) -> Result<Written, Difference> {
     let before = pattern(length + 2 * MARGIN);
-    let (mut library, mut expected) = (before.clone(), before.clone());
+    let (mut own, mut expected) = (before.clone(), before.clone());
     let answers = (
-        Library::write(fields, &mut library[MARGIN..MARGIN + length]),
-        Independent::write(fields, &mut expected[MARGIN..MARGIN + length]),
+        library(fields, &mut own[MARGIN..MARGIN + length]),
+        independent(fields, &mut expected[MARGIN..MARGIN + length]),
     );
-    let call = |what: &str| format!("write to {length} bytes, {what}: {}", text(fields));
+    let call = |what: &str| format!("{name} to {length} bytes, {what}: {}", text(fields));
     same(answers.0, answers.1, || call("the answer"))?;
-    if library != expected {
-        let bytes = "the bytes of the space, with 16 on either side";
-        return Err(Difference {
-            call: call(bytes),
-            library: hex(&library),
-            expected: hex(&expected),
-        });
+    if own != expected {
+        let call = call("the bytes of the space, with 16 on either side");
+        return Err(Difference { call, library: hex(&own), expected: hex(&expected) });
     }
-    same(stay(&library, &before, answers.0), true, || call("whether the other bytes stay"))?;
-    Ok(Written { answer: answers.0, space: library[MARGIN..MARGIN + length].to_vec() })
+    let written = if answers.0 == 0 { message } else { 0 };
+    same(stay(&own, &before, written), true, || call("whether the other bytes stay"))?;
+    Ok(Written { answer: answers.0, space: own[MARGIN..MARGIN + length].to_vec() })
 }
 
 /// Bytes that differ from their neighbours, so that a moved byte is seen.
@@ -41,17 +57,15 @@ fn pattern(length: usize) -> Vec<u8> {
     (0..length).map(|index| (index * 37 + 11) as u8).collect()
 }
 
-/// Whether nothing but a written message changed.
-fn stay(after: &[u8], before: &[u8], answer: u32) -> bool {
-    if answer != 0 {
-        return after == before;
-    }
-    after[..MARGIN] == before[..MARGIN] && after[MARGIN + LENGTH..] == before[MARGIN + LENGTH..]
+/// Whether nothing but the first so many bytes of the space changed.
+fn stay(after: &[u8], before: &[u8], written: usize) -> bool {
+    let end = MARGIN + written;
+    after[..MARGIN] == before[..MARGIN] && after[end..] == before[end..]
 }
 
 /// The fields as text, with the bytes of the texts in hexadecimal.
 fn text(fields: &Fields) -> String {
-    let Fields { numbers, kind, identifier, name } = fields;
+    let Fields { numbers, forms, kind, identifier, name } = fields;
     let texts = [kind, identifier, name].map(|text| hex(text));
-    format!("numbers {numbers:?}, type, identifier and name {texts:?}")
+    format!("numbers {numbers:?}, forms {forms:?}, type, identifier and name {texts:?}")
 }

@@ -4,6 +4,7 @@ use crate::interface::NUMBERS;
 use crate::messages::damage;
 use crate::messages::reading::LONGEST_ARRAY;
 use crate::messages::writing::UNFIT_PARTS;
+use independent::address::{LONG, SHORT};
 use independent::application::PLACES;
 use std::collections::BTreeMap;
 
@@ -21,12 +22,21 @@ pub enum Outcome {
     MalformedIdentifier,
     Number(u32),
     NoNumber(u32),
+    /// A message whose sender and recipient have these lengths.
+    Lengths(usize, usize),
+    /// A long address that is read, or is not.
+    Branch(u32),
+    NoBranch(u32),
     Place(u32),
     NoPlace(u32),
     /// All numbers read into an array of this length.
     Array(usize),
     /// Writing from a message's fields or from others: done, or refused.
     Written,
+    /// Written to a message of this length.
+    WrittenLength(usize),
+    /// Written though a short form had a number and a text that a long one could not have.
+    Unseen,
     Unfit,
     NoRoom,
     /// Writing refused where only this part is unfit.
@@ -65,14 +75,18 @@ impl Tally {
 fn all() -> Vec<Vec<Outcome>> {
     use Outcome::*;
     let places = 0..PLACES as u32;
+    let lengths = [(SHORT, SHORT), (LONG, SHORT), (SHORT, LONG), (LONG, LONG)];
     vec![
         vec![Readable, Unreadable, WellFormed, MalformedIdentifier],
         damage::KINDS.iter().map(|&(kind, _)| Damaged(kind)).collect(),
         DIGIT_FIELDS.flat_map(|field| [Number(field), NoNumber(field)]).collect(),
+        lengths.map(|(sender, recipient)| Lengths(sender, recipient)).to_vec(),
+        [1, 2].into_iter().flat_map(|field| [Branch(field), NoBranch(field)]).collect(),
         places.clone().map(Place).collect(),
         places.map(NoPlace).collect(),
         (0..=LONGEST_ARRAY).map(Array).collect(),
-        vec![Written, Unfit, NoRoom, UnfitBeforeRoom],
+        vec![Written, Unseen, Unfit, NoRoom, UnfitBeforeRoom],
+        [339, 348, 357].map(WrittenLength).to_vec(),
         (0..UNFIT_PARTS).map(UnfitPart).collect(),
     ]
 }
@@ -81,14 +95,26 @@ fn field_name(field: u32) -> &'static str {
     ["01", "040", "050", "020", "D31", "601", "010", "6G0", "6G6", "6GG"][field as usize]
 }
 
+/// The parts after the numbers that can be unfit.
+pub const TEXT_PARTS: [&str; 10] = [
+    "type's length",
+    "identifier's length",
+    "name's length",
+    "identifier's form",
+    "040's length",
+    "040's second number",
+    "040's text",
+    "050's length",
+    "050's second number",
+    "050's text",
+];
+
 fn part_name(part: usize) -> String {
     match part {
         0..=5 => field_name(part as u32 + 1).to_string(),
         6..=15 => format!("rate {}", part - 5),
         16..=25 => format!("amount {}", part - 15),
-        _ => ["type's length", "identifier's length", "name's length", "identifier's form"]
-            [part - NUMBERS]
-            .to_string(),
+        _ => TEXT_PARTS[part - NUMBERS].to_string(),
     }
 }
 
@@ -101,10 +127,15 @@ fn name(outcome: Outcome) -> String {
         Outcome::MalformedIdentifier => "malformed identifier".to_string(),
         Outcome::Number(field) => format!("{} a number", field_name(field)),
         Outcome::NoNumber(field) => format!("{} none", field_name(field)),
+        Outcome::Lengths(sender, recipient) => format!("040 of {sender} and 050 of {recipient}"),
+        Outcome::Branch(field) => format!("{} a branch", field_name(field)),
+        Outcome::NoBranch(field) => format!("{} long without a branch", field_name(field)),
         Outcome::Place(place) => format!("place {} well formed", place + 1),
         Outcome::NoPlace(place) => format!("place {} malformed", place + 1),
         Outcome::Array(length) => format!("array of {length}"),
         Outcome::Written => "written".to_string(),
+        Outcome::WrittenLength(length) => format!("written {length} bytes"),
+        Outcome::Unseen => "written past an unfit branch of a short form".to_string(),
         Outcome::Unfit => "17".to_string(),
         Outcome::NoRoom => "18".to_string(),
         Outcome::UnfitBeforeRoom => "17 with a short space".to_string(),

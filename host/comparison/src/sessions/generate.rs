@@ -1,10 +1,13 @@
 //! Sessions that aim at the boundaries of document 01's rules.
 
+use crate::addresses::{address, text};
 use crate::damage::{damage, push_odd_step, put_near};
 use crate::random::Random;
 use crate::sessions::days::{day_after, day_before, seconds_away};
 use crate::sessions::plan::{plan, Plan, Planned};
-use crate::sessions::spoil::{disorder, spoil, spoil_parts, spoil_places, spoil_texts, RARE_DATES};
+use crate::sessions::spoil::{
+    disorder, lengthen, spoil, spoil_addresses, spoil_parts, spoil_places, spoil_texts, RARE_DATES,
+};
 use independent::application::Draft;
 use independent::compose::{draft, written, Announcement, Session};
 
@@ -71,6 +74,7 @@ pub fn announced(random: &mut Random, announcement: &Announcement) -> Vec<u8> {
             message = refused.write();
             spoil_parts(random, &mut message);
         }
+        5 => lengthen(random, &mut message),
         _ => (),
     }
     message
@@ -151,12 +155,16 @@ fn push_reception(random: &mut Random, session: &mut Session, plan: &Plan, plann
 
 /// An application's bytes, sometimes with errors or damaged.
 pub fn application(random: &mut Random, announcement: &Announcement, planned: &Planned) -> Vec<u8> {
+    let texts = [text(random), text(random)];
+    let worked = draft(planned.code, planned.time, &[]);
     let mut application = Draft {
+        sender: address(random, planned.code, &texts[0]),
+        recipient: address(random, worked.recipient.code, &texts[1]),
         date: announcement.execution,
         identifier: &announcement.identifier,
         places: planned.places,
         name: random.pick(&NAMES),
-        ..draft(planned.code, planned.time, &[])
+        ..worked
     };
     for _ in 0..random.pick(&[0, 0, 0, 0, 0, 0, 0, 0, 0, 1, 1, 2, 6]) {
         spoil(random, &mut application);
@@ -167,6 +175,7 @@ pub fn application(random: &mut Random, announcement: &Announcement, planned: &P
         1 => put_near(random, &mut message),
         2 => spoil_texts(random, &mut message),
         3 => spoil_places(random, &mut message),
+        4..=6 => spoil_addresses(random, &mut message),
         _ => (),
     }
     message

@@ -1,17 +1,20 @@
 //! What is rare in a session and must be drawn all the same, for a book may be wrong just there.
 
+use crate::addresses::shown::{is_long_announcement, Shown, NAMES};
 use independent::announcement::Terms;
 use independent::application::{Application, Field, PLACES};
 use independent::award::{Bid, Side};
 use independent::envelope::split_field;
-use independent::session::{ANNOUNCEMENT, RECEPTION};
+use independent::session::{Journal, ANNOUNCEMENT, RECEPTION};
 use std::collections::BTreeMap;
 
-/// How often each rare thing was drawn, and the terms that were announced last.
+/// How often each rare thing was drawn, the terms that were announced last, and what the addresses
+/// showed since.
 #[derive(Default)]
 pub struct Drawn {
     pub counts: BTreeMap<&'static str, u64>,
     terms: Option<Terms>,
+    addresses: Shown,
 }
 
 impl Drawn {
@@ -19,13 +22,20 @@ impl Drawn {
         *self.counts.entry(what).or_default() += u64::from(is_so);
     }
 
-    /// Counts what a session's announcements and receptions draw.
+    /// Counts what a session's announcements and receptions draw until its log ends.
     pub fn count(&mut self, session: &[u8]) {
+        let mut journal = Journal::new();
         let mut rest = session;
         while let Some((tag, contents, after)) = split_field(rest) {
+            let mut line = Vec::new();
+            if journal.step(tag, contents, &mut line).is_break() {
+                return;
+            }
+            let is_long = tag == ANNOUNCEMENT && is_long_announcement(contents);
+            self.add("announcement with a long address", is_long);
             match tag {
-                ANNOUNCEMENT => self.announced(contents),
-                RECEPTION if contents.len() >= 14 => self.received(contents.split_at(14)),
+                ANNOUNCEMENT if line.is_empty() => self.announced(contents),
+                RECEPTION => self.received(contents.split_at(14), &line),
                 _ => (),
             }
             rest = after;
@@ -46,10 +56,12 @@ impl Drawn {
         self.add("LA, limit rate of zero", is_la && limit == 0);
         self.add("LP, limit rate of zero", !is_la && limit == 0);
         self.terms = Some(terms);
+        self.addresses.open();
     }
 
-    fn received(&mut self, (clock, message): (&[u8], &[u8])) {
+    fn received(&mut self, (clock, message): (&[u8], &[u8]), line: &[u8]) {
         let Ok(application) = Application::read(message) else { return };
+        self.addressed(&application, line);
         let malformed = (0..PLACES).filter(|&place| application.place(place).is_none()).count();
         self.add("two places malformed", malformed == 2);
         let time = &clock[8..];
@@ -60,6 +72,26 @@ impl Drawn {
             self.add("only the tenth place filled", filled == 1 && bids[9].is_filled());
             self.totalled(&bids);
         }
+    }
+
+    /// Counts what the addresses show, with the errors of the line that matter for them.
+    fn addressed(&mut self, application: &Application, line: &[u8]) {
+        let has = |text: &[u8]| line.windows(text.len()).any(|part| part == text);
+        // A reception that is skipped has no line.
+        if line.is_empty() || line.starts_with(b"R -----") {
+            return;
+        }
+        let errors: &[u64] = if line.starts_with(b"C ") {
+            &[]
+        } else if has(b"040 - 309") {
+            &[309]
+        } else if has(b"601 - 302") {
+            &[302]
+        } else {
+            &[999]
+        };
+        let shown = self.addresses.of(application, errors);
+        NAMES.into_iter().zip(shown).for_each(|(name, is_so)| self.add(name, is_so));
     }
 
     /// Counts totals that are above the maximum by some of the bids alone.

@@ -1,11 +1,14 @@
 //! Errors that announcements and applications are given.
 
+use crate::addresses;
 use crate::damage::put_near;
 use crate::random::Random;
 use crate::sessions::days::{day_after, day_before};
 use crate::sessions::plan::MOST_AMOUNT;
-use independent::application::{Draft, PLACES};
+use independent::address::{Address, LONG};
+use independent::application::{Application, Draft, Field, PLACES};
 use independent::compose::Announcement;
+use independent::envelope::HEADER;
 
 /// Days that are not in the calendar, and leap days that are.
 pub const RARE_DATES: [u64; 9] = [
@@ -43,8 +46,11 @@ pub fn spoil(random: &mut Random, application: &mut Draft) {
     let place = random.index(PLACES);
     match random.below(12) {
         0 => application.kind = b"6G2",
-        1 => application.sender = random.pick(&[0, 99_999, application.sender ^ 1]).min(99_999),
-        2 => application.recipient = 1001,
+        1 => {
+            let code = &mut application.sender.code;
+            *code = random.pick(&[0, 99_999, *code ^ 1]).min(99_999);
+        }
+        2 => application.recipient.code = 1001,
         3 => application.date = day_after(application.date),
         4 => application.date = random.pick(&RARE_DATES),
         5 => application.time = random.pick(&[240_000, 105_960, 106_000]),
@@ -58,11 +64,28 @@ pub fn spoil(random: &mut Random, application: &mut Draft) {
     }
 }
 
+/// The digit fields and the bids.
+const SPOILED: [Field; 7] = [
+    Field::Sender,
+    Field::Recipient,
+    Field::Cro,
+    Field::ReferenceDate,
+    Field::ReferenceTime,
+    Field::CheckDigit,
+    Field::Bids,
+];
+
+/// A field's bytes in an application that is readable.
+fn contents(message: &mut [u8], field: Field) -> &mut [u8] {
+    let range = Application::read(message).expect("the application is readable").range(field);
+    &mut message[range]
+}
+
 /// Puts near bytes into several digit fields at once.
 pub fn spoil_texts(random: &mut Random, message: &mut [u8]) {
-    for (start, end) in [(9, 14), (17, 22), (25, 36), (39, 47), (50, 56), (59, 64), (81, 321)] {
+    for field in SPOILED {
         if random.one_in(3) {
-            put_near(random, &mut message[start..end]);
+            put_near(random, contents(message, field));
         }
     }
 }
@@ -70,7 +93,24 @@ pub fn spoil_texts(random: &mut Random, message: &mut [u8]) {
 /// Puts near bytes into places of an application, mostly into two of them.
 pub fn spoil_places(random: &mut Random, message: &mut [u8]) {
     for _ in 0..random.pick(&[1, 2, 2, 10]) {
-        let start = 81 + 24 * random.index(PLACES);
-        put_near(random, &mut message[start..start + 24]);
+        let start = 24 * random.index(PLACES);
+        put_near(random, &mut contents(message, Field::Bids)[start..start + 24]);
     }
+}
+
+/// Puts something out of place in the long addresses of an application, mostly in one of them.
+pub fn spoil_addresses(random: &mut Random, message: &mut [u8]) {
+    let both = [Field::Sender, Field::Recipient];
+    let fields = random.pick(&[&both[..1], &both[..1], &both[1..], &both[..]]);
+    fields.iter().for_each(|&field| addresses::spoil(random, contents(message, field)));
+}
+
+/// Gives an announcement a long sender or recipient, which only an application may have.
+pub fn lengthen(random: &mut Random, message: &mut Vec<u8>) {
+    let (head, code) = random.pick(&[(6, 1000), (14, 90_001)]);
+    let text = addresses::text(random);
+    let mut long = [0; LONG];
+    Address::long(code, addresses::number(random), &text).fill(&mut long);
+    message[head + 2] = LONG as u8;
+    message.splice(head + HEADER..head + HEADER + 5, long);
 }

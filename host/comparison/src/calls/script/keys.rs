@@ -38,8 +38,8 @@ pub const ANNOUNCEMENT: [Key; 20] = [
     key("cutoff", 219, 6),
 ];
 
-pub const APPLICATION: [Key; 7] = [
-    key("recipient", 17, 5),
+/// The keys of an application but for its recipient, whose length moves them.
+pub const APPLICATION: [Key; 6] = [
     key("cro", 25, 11),
     key("date", 39, 8),
     key("check", 59, 5),
@@ -52,6 +52,8 @@ pub const APPLICATION: [Key; 7] = [
 const WHOLE: [&str; 9] =
     ["sender", "recipient", "date", "time", "execution", "spot", "forward", "cutoff", "name"];
 
+/// The key of an application's recipient.
+pub const RECIPIENT: &str = "recipient";
 pub const CODE: Key = key("code", 9, 5);
 pub const REFERENCE_TIME: Key = key("reference time", 50, 6);
 
@@ -95,10 +97,15 @@ impl Key {
             let number = if is_whole { text } else { text.trim_start_matches('0') };
             return Some(if number.is_empty() { "0" } else { number }.to_string());
         }
-        let is_written = text.bytes().all(|byte| (b' '..=b'~').contains(&byte) && byte != b'"');
-        is_written
-            .then(|| if text.contains(' ') { format!("\"{text}\"") } else { text.to_string() })
+        printed(text.as_bytes())
     }
+}
+
+/// A text as a word, in double quotes where it has blanks, or none where a script cannot write it.
+pub fn printed(text: &[u8]) -> Option<String> {
+    let text = std::str::from_utf8(text).ok()?;
+    let is_written = text.bytes().all(|byte| (b' '..=b'~').contains(&byte) && byte != b'"');
+    is_written.then(|| if text.contains(' ') { format!("\"{text}\"") } else { text.to_string() })
 }
 
 /// A place with its rate, its slash and its amount.

@@ -5,6 +5,7 @@ use crate::calls::layout::{AMOUNTS, CODES, COUNT, FORM, STATE};
 use crate::calls::padded::MARGIN;
 use crate::calls::script::keys::{self, Key};
 use crate::calls::script::line::{words, Word, Words};
+use crate::calls::script::parted::{address_of, Parted};
 use crate::calls::script::SPACE;
 use crate::calls::step::{Call, Step};
 use independent::award::POSITIONS;
@@ -80,18 +81,31 @@ fn message_of(words: &mut Words, mut message: Vec<u8>, keys: &[Key]) -> Result<V
 }
 
 fn application_of(words: &mut Words) -> Result<Vec<u8>, String> {
-    let mut message = keys::application();
-    for key in [keys::CODE, keys::REFERENCE_TIME] {
-        let value = words.next().ok_or_else(|| format!("a {} is needed", key.name))?;
-        key.put(&mut message, value)?;
-    }
+    let mut parted = Parted::worked();
+    parted.sender = address_of(words.next().ok_or("a code is needed")?)?;
+    let time = words.next().ok_or("a reference time is needed")?;
+    keys::REFERENCE_TIME.put(&mut parted.message, time)?;
     let mut index = 0;
     while let Some(word) = words.peek().filter(|word| !starts_key(word)) {
         words.next();
-        keys::put_bid(&mut message, index, word)?;
+        keys::put_bid(&mut parted.message, index, word)?;
         index += 1;
     }
-    message_of(words, message, &keys::APPLICATION)
+    put_application_keys(words, &mut parted)?;
+    Ok(parted.joined())
+}
+
+/// Puts the values of the keys that come next, the recipient among them or not.
+fn put_application_keys(words: &mut Words, parted: &mut Parted) -> Result<(), String> {
+    let message = std::mem::take(&mut parted.message);
+    parted.message = message_of(words, message, &keys::APPLICATION)?;
+    if !words.peek().is_some_and(|word| word.is(keys::RECIPIENT)) {
+        return Ok(());
+    }
+    words.next();
+    let value = words.next().ok_or_else(|| format!("{} has no value", keys::RECIPIENT))?;
+    parted.recipient = address_of(value)?;
+    put_application_keys(words, parted)
 }
 
 fn starts_key(word: &Word) -> bool {

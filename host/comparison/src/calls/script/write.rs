@@ -2,11 +2,14 @@
 
 use crate::calls::book::WORDS;
 use crate::calls::script::keys::{self, Key};
+use crate::calls::script::parted::{address_text, Parted};
 use crate::calls::script::{read, SPACE};
 use crate::calls::step::{Call, Step};
 use crate::damage::fields_of;
+use independent::address::LONG;
 use independent::application::PLACES;
 use independent::award::POSITIONS;
+use independent::digits;
 use independent::envelope::HEADER;
 
 /// The steps as a script.
@@ -99,26 +102,34 @@ fn differing(message: &[u8], worked: &[u8], keys: &[Key]) -> Option<String> {
 }
 
 fn application_text(message: &[u8]) -> Option<String> {
-    let worked = keys::application();
-    let keys = differing(message, &worked, &keys::APPLICATION)?;
+    let worked = Parted::worked();
+    let Parted { message, sender, recipient } = Parted::of(message)?;
+    let time = &message[keys::REFERENCE_TIME.start..][..keys::REFERENCE_TIME.width];
+    let is_sender = sender.len() == LONG || digits::are_digits(&sender);
+    if !is_sender || !digits::are_digits(time) {
+        return None;
+    }
+    let mut text = format!("{} {}", address_text(&sender)?, keys::printed(time)?);
+    text += &bids_text(&message, &worked.message)?;
+    if recipient != worked.recipient {
+        text += &format!(" {} {}", keys::RECIPIENT, address_text(&recipient)?);
+    }
+    Some(text + &differing(&message, &worked.message, &keys::APPLICATION)?)
+}
+
+/// The bids up to the last that is filled.
+fn bids_text(message: &[u8], worked: &[u8]) -> Option<String> {
     let is_zero = |index: &usize| {
         let start = keys::place(*index).0.start;
         message[start..start + 24] == worked[start..start + 24]
     };
     let filled = (0..PLACES).rev().find(|index| !is_zero(index)).map_or(0, |last| last + 1);
-    let mut text =
-        format!("{} {}", fixed(&keys::CODE, message)?, fixed(&keys::REFERENCE_TIME, message)?);
+    let mut text = String::new();
     for index in 0..filled {
         let (rate, amount) = keys::place(index);
         text += &format!(" {}/{}", rate.value(message)?, amount.value(message)?);
     }
-    Some(text + &keys)
-}
-
-/// The value as it stands, where it is digits.
-fn fixed(key: &Key, message: &[u8]) -> Option<String> {
-    let text = std::str::from_utf8(&message[key.start..key.start + key.width]).ok()?;
-    text.bytes().all(|byte| byte.is_ascii_digit()).then(|| text.to_string())
+    Some(text)
 }
 
 /// Any bytes, field by field as far as they have fields: heads in hexadecimal digits, then texts.
