@@ -5,15 +5,18 @@ use mathlib.Core.Bool.{Bool, true, false, _&&_, false≢true}
 use mathlib.Core.List.{List, [], _∷_}
 use Prim.Native.Nat.{ℕ, _+_, _-_, _≤_, _<_}
 use native.Mathlib.Omega.{arith}
+use lib.Dec.{eqb}
 use lib.ListN.{length, take, drop, length-drop}
 use lib.Seq.{drop-drop, take-all, take-take, length-take-le}
-use Rattle.layout.specs.Fields.{FieldEntry, IsOneOf, lengthAt, readable, offset, content, whole}
-use Rattle.layout.proofs.ReturnTrip.{Stands, field-whole, field-length}
-use Rattle.layout.proofs.Fixed.{fixed, bytesIn}
+use Rattle.laws.proofs.Tests.{same-test}
+use Rattle.layout.specs.Fields.{FieldEntry, oneOf, IsOneOf, lengthAt, starts, readable, offset, content, whole}
+use Rattle.layout.proofs.Fields.{starts-fits, starts-length}
+use Rattle.layout.proofs.ReturnTrip.{first, rest, Stands, is-one-of, field-whole, field-length}
+use Rattle.layout.proofs.Fixed.{fixed, first-length, bytesIn}
 use Rattle.layout.proofs.Ends.{readable-split, head-length, offset-next, offset-from-end, content-from-end}
 use Rattle.envelope.specs.declared.application.Field.{Field}
 use Rattle.envelope.specs.declared.application.Field.the-variants.{MessageType, Sender, Recipient, Cro, Date, Time, Check, Identifier, Bids, Name}
-use Rattle.envelope.specs.Application.{entryOf, layout6G1, position, bytesOf}
+use Rattle.envelope.specs.Application.{one, either, entryOf, layout6G1, position, bytesOf}
 use Rattle.envelope.specs.Promise.{isLast, start, width}
 
 -- the first fields, and the last, which have one length each
@@ -22,6 +25,59 @@ first6G1 = entryOf MessageType ∷ entryOf Sender ∷ entryOf Recipient ∷ []
 
 abbrev pub last6G1 : List (ℕ × ℕ)
 last6G1 = (0x02, 11) ∷ (0x31, 8) ∷ (0x60, 6) ∷ (0x10, 5) ∷ (0x70, 11) ∷ (0x76, 240) ∷ (0x7f, 15) ∷ []
+
+-- one of the two lengths of an address, as the reader of addresses asks for it
+abbrev FiveOrFourteen : ℕ → Type 0
+FiveOrFourteen w = (w ≢ 5 → w ≡ 14) × (5 ≤ w) × (w ≤ 14)
+
+five-or-fourteen : (w : ℕ) → IsOneOf (5 ∷ 14 ∷ []) w → FiveOrFourteen w
+five-or-fourteen w o = ⊎-elim (λ e. ((λ n. absurd (n e)), omega arith, omega arith)) (λ e. ((λ n. e), omega arith, omega arith)) o
+
+-- in 22 bytes the addresses of the first fields are short
+abbrev pub short6G1 : List (ℕ × ℕ)
+short6G1 = (0x01, 3) ∷ (0x04, 5) ∷ (0x05, 5) ∷ []
+
+same-start : (tag : ℕ) (m : List ℕ) → lengthAt m ≡ 5 → starts (one tag 5) m ≡ starts (either tag 5 14) m
+unfolding starts oneOf
+same-start tag m e = rw e
+
+module _ (s : List ℕ) (l : length s ≡ 22) where
+  abbrev second : List ℕ
+  second = drop (3 + lengthAt s) s
+
+  abbrev third : List ℕ
+  third = drop (3 + lengthAt second) second
+
+  same-first : lengthAt second ≡ 5 → lengthAt third ≡ 5 → readable (fixed short6G1) s ≡ readable first6G1 s
+  unfolding readable fixed
+  same-first p q =
+      ap₂ (λ (x y : Bool). starts (entryOf MessageType) s && (x && (y && eqb (length (drop (3 + lengthAt third) third)) 0))) (same-start 0x04 second p) (same-start 0x05 third q)
+
+  from-short : readable (fixed short6G1) s ≡ true → readable first6G1 s ≡ true
+  unfolding fixed
+  from-short h =
+      let r = rest (one 0x01 3) (fixed (drop 1 short6G1)) s h in
+      let t = rest (one 0x04 5) (fixed (drop 2 short6G1)) second r in
+      sym (same-first (first-length (0x04, 5) (drop 2 short6G1) second r) (first-length (0x05, 5) [] third t)) ∙ h
+
+  to-short : readable first6G1 s ≡ true → readable (fixed short6G1) s ≡ true
+  unfolding readable
+  to-short h =
+      let r = rest (entryOf MessageType) (drop 1 first6G1) s h in
+      let t = rest (entryOf Sender) (drop 2 first6G1) second r in
+      let f = first (entryOf MessageType) (drop 1 first6G1) s h in
+      let g = first (entryOf Sender) (drop 2 first6G1) second r in
+      let i = first (entryOf Recipient) [] third t in
+      let n = is-one-of (3 ∷ []) (lengthAt s) (starts-length (entryOf MessageType) s f) in
+      let w = five-or-fourteen (lengthAt second) (is-one-of (5 ∷ 14 ∷ []) (lengthAt second) (starts-length (entryOf Sender) second g)) in
+      let v = five-or-fourteen (lengthAt third) (is-one-of (5 ∷ 14 ∷ []) (lengthAt third) (starts-length (entryOf Recipient) third i)) in
+      let a : length second ≡ 16 = omega (arith, length-drop (3 + lengthAt s) s) in
+      let b : length third + 3 + lengthAt second ≡ 16 = omega (arith, length-drop (3 + lengthAt second) second, starts-fits (entryOf Sender) second g) in
+      let c = starts-fits (entryOf Recipient) third i in
+      same-first (omega (arith, w .1, v .1)) (omega (arith, w .1, v .1)) ∙ h
+
+  short-first : readable (fixed short6G1) s ≡ readable first6G1 s
+  short-first = same-test (readable (fixed short6G1) s) (readable first6G1 s) from-short to-short
 
 -- the last fields are tested first, as the part up to the end
 module _ (m : List ℕ) (k : ℕ) (e : k + 317 ≡ length m) where
@@ -37,6 +93,11 @@ module _ (m : List ℕ) (k : ℕ) (e : k + 317 ≡ length m) where
 
   pub both-parts : (r : Bool) → readable (fixed last6G1) (take (length m - k) (drop k m)) ≡ true → r ≡ readable first6G1 (take (k - 0) m) → r ≡ readable layout6G1 m
   both-parts r h f = let z : k - 0 ≡ k = omega arith in f ∙ ap (λ (j : ℕ). readable first6G1 (take j m)) z ∙ with-first true h
+
+  pub short-parts : (r : Bool) → length m ≡ 339 → readable (fixed last6G1) (take (length m - k) (drop k m)) ≡ true → r ≡ readable (fixed short6G1) (take 22 m) → r ≡ readable layout6G1 m
+  short-parts r n h f =
+      let z : 22 ≡ k = omega arith in
+      f ∙ short-first (take 22 m) (length-take-le 22 m (omega arith)) ∙ ap (λ (j : ℕ). readable first6G1 (take j m)) z ∙ with-first true h
 
   pub no-last-part : readable (fixed last6G1) (take (length m - k) (drop k m)) ≡ false → false ≡ readable layout6G1 m
   no-last-part h = with-first false h
@@ -54,13 +115,6 @@ placed Check = refl
 placed Identifier = refl
 placed Bids = refl
 placed Name = refl
-
--- one of the two lengths of an address, as the reader of addresses asks for it
-abbrev FiveOrFourteen : ℕ → Type 0
-FiveOrFourteen w = (w ≢ 5 → w ≡ 14) × (5 ≤ w) × (w ≤ 14)
-
-five-or-fourteen : (w : ℕ) → IsOneOf (5 ∷ 14 ∷ []) w → FiveOrFourteen w
-five-or-fourteen w o = ⊎-elim (λ e. ((λ n. absurd (n e)), omega arith, omega arith)) (λ e. ((λ n. e), omega arith, omega arith)) o
 
 module _ (m : List ℕ) (h : readable layout6G1 m ≡ true) where
   pub whole-field : (f : Field) → whole (position f) m ≡ true

@@ -10,11 +10,11 @@ use Rattle.envelope.proofs.application.put_first.Tie as tie
 put-field-requires : tie.Need-put-field-requires
 put-field-requires c κs = search needs
 
-put-address-requires : tie.Need-put-address-requires
-put-address-requires c κs = search needs
+put-sender-requires : tie.Need-put-sender-requires
+put-sender-requires c κs = search needs
 
-put-address-requires-2 : tie.Need-put-address-requires-2
-put-address-requires-2 c κs = search needs
+put-recipient-requires : tie.Need-put-recipient-requires
+put-recipient-requires c κs = search needs
 
 put-number-requires : tie.Need-put-number-requires
 put-number-requires c κs = search needs
@@ -33,8 +33,8 @@ returns c =
     let recipient = cro .before .before .before .before in
     let sender = recipient .before .before .before .before in
     let kind = sender .before .before .before .before in (
-      then zero-le (then zero-le (then zero-le (then zero-le (kind .put-field .ensures .0) (sender .put-address .ensures .0)) (recipient .put-address2 .ensures .0)) (cro .put-number .ensures .0)) (date .put-number2 .ensures .0),
-      omega (arith, kind .put-field .ensures .1, sender .put-address .ensures .1, recipient .put-address2 .ensures .1, cro .put-number .ensures .1, date .put-number2 .ensures .1),
+      then zero-le (then zero-le (then zero-le (then zero-le (kind .put-field .ensures .0) (sender .put-sender .ensures .0)) (recipient .put-recipient .ensures .0)) (cro .put-number .ensures .0)) (date .put-number2 .ensures .0),
+      omega (arith, kind .put-field .ensures .1, sender .put-sender .ensures .1, recipient .put-recipient .ensures .1, cro .put-number .ensures .1, date .put-number2 .ensures .1),
     )
 
 pub put-first-spec : {M : Type 1} → statement M
@@ -42,8 +42,8 @@ put-first-spec =
     tie.close
     (tie.spec
     put-field-requires
-    put-address-requires
-    put-address-requires-2
+    put-sender-requires
+    put-recipient-requires
     put-number-requires
     put-number-requires-2
     same-length
