@@ -10,7 +10,8 @@
 //                                  this reference time and up to ten bids; keys are recipient, cro,
 //                                  date (of reference), check, type, identifier and name, a name is
 //                                  filled up with blanks, and without a key stands the worked
-//                                  example's value
+//                                  example's value; CODE/BRANCH/TEXT in place of CODE, as
+//                                  90001/12345/AB, is a sender of the long form, and so for recipient
 //   receive DATE TIME BYTES ..     a reception (A2) of any message
 //   close DATE TIME                a closing (A3)
 //   revoke                         a revocation (A4)
@@ -19,7 +20,8 @@
 //   raw BYTES ..                   bytes as they are
 // DATE is eight characters and TIME six, as they stand, digits or not. A rate is in hundred-thousandths
 // of a percent, an amount in eurocents. BYTES are pairs of hexadecimal digits or a text in double
-// quotes; a text as a value may stand in double quotes too, and then it may have blanks.
+// quotes; a text as a value, and an address of the long form, may stand in double quotes too, and then
+// it may have blanks.
 #ifndef SCRIPT_STEPS_H
 #define SCRIPT_STEPS_H
 
