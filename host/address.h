@@ -7,10 +7,14 @@
 #define ADDRESS_MOST 14
 #define MESSAGE_MOST 357
 
+// Room for addresses of lengths that none has.
+#define ADDRESS_ROOM 20
+#define MESSAGE_ROOM (329 + 2 * ADDRESS_ROOM)
+
 // An address: the bytes of its field and how many there are, 1 if it reads as an address, and its numbers, which
 // are 0 where it does not or has none.
 struct address {
-    uint8_t bytes[ADDRESS_MOST + 1];
+    uint8_t bytes[ADDRESS_ROOM + 1];
     size_t length;
     uint32_t read;
     uint64_t code;
@@ -26,7 +30,7 @@ size_t start_with(const struct address *sender, const struct address *recipient,
 struct addressed {
     struct address sender;
     struct address recipient;
-    uint8_t bytes[MESSAGE_MOST];
+    uint8_t bytes[MESSAGE_ROOM];
     size_t length;
 };
 

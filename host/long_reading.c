@@ -167,6 +167,25 @@ static void other_heads(const struct buffers *b)
     }
 }
 
+// Addresses of every length from 0 to 20, which the heads say and the message adds up to: only 5 and 14 are
+// readable, though others make 339, 348 or 357 bytes too.
+static void other_lengths(const struct buffers *b)
+{
+    for (size_t sender = 0; sender <= ADDRESS_ROOM; sender++) {
+        for (size_t recipient = 0; recipient <= ADDRESS_ROOM; recipient++) {
+            const struct address from = {"90002/12345/AB000000", sender, 0, 0, 0};
+            const struct address to = {"01000/00070/AB000000", recipient, 0, 0, 0};
+            const struct addressed a = addressed(&from, &to);
+            const int is_right = (sender == 5 || sender == 14) && (recipient == 5 || recipient == 14);
+            CHECK(a.length == 329 + sender + recipient);
+            if (is_right)
+                CHECK(optes_6g1_read(guarded_copy(&b->message, a.bytes, a.length), a.length) == 0);
+            else
+                unreadable(b, a.bytes, a.length);
+        }
+    }
+}
+
 // A long sender and a long recipient in the other order: 12.
 static void order(const struct buffers *b)
 {
@@ -235,6 +254,7 @@ void long_reading_cases(const struct buffers *b)
     heads(b);
     lengths(b);
     other_heads(b);
+    other_lengths(b);
     order(b);
     damaged_addresses(b);
     texts(b);

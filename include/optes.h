@@ -140,8 +140,9 @@ uint32_t optes_6g1_write(
     uint8_t *space, size_t n);
 
 // Writes a 6G1 with addresses of either form. The length of each is OPTES_ADDRESS_SHORT, and then its branch and
-// its text are not looked at, or OPTES_ADDRESS_LONG; another one is OPTES_UNFIT. The message has 329 bytes and the
-// two lengths, and a space of fewer is OPTES_NO_ROOM. All else is as for optes_6g1_write.
+// its text are not looked at, or OPTES_ADDRESS_LONG. Another length, a branch of more than five digits and a text
+// that is not of OPTES_ADDRESS_TEXT_BYTES are OPTES_UNFIT. The message has 329 bytes and the two lengths, and a
+// space of fewer is OPTES_NO_ROOM. All else is as for optes_6g1_write.
 uint32_t optes_6g1_write_addresses(
     uint64_t sender, uint64_t sender_length, uint64_t sender_branch,
     uint64_t recipient, uint64_t recipient_length, uint64_t recipient_branch,

@@ -247,6 +247,22 @@ static void other_heads(const struct desk *d)
     }
 }
 
+// Addresses of every length from 0 to 20, which the heads say and the message adds up to: 12 for all but 5 and 14.
+static void other_lengths(const struct desk *d)
+{
+    const struct optes_book before = opened(d);
+    uint8_t brief[APPLICATION_BYTES], m[400];
+    application_of(brief, 90002, 102900, &one_bid, 1);
+    for (size_t k = 0; k < 21 * 21; k++) {
+        const struct address sender = {"90002/12345/AB000000", k / 21}, recipient = {"01000/00070/AB000000", k % 21};
+        const int is_right = (sender.length == 5 || sender.length == 14)
+            && (recipient.length == 5 || recipient.length == 14);
+        struct optes_book b = before;
+        size_t n = with_addresses(m, brief, sizeof brief, sender, recipient);
+        CHECK(call_receive(d, &b, m, n, in_time) == (is_right ? 0 : 12));
+    }
+}
+
 // An announcement's addresses are short: a long one is 1, whatever else is wrong.
 static void announcements(const struct desk *d)
 {
@@ -273,5 +289,6 @@ void branch_cases(const struct desk *d)
     returned_lengths(d);
     unreadable(d);
     other_heads(d);
+    other_lengths(d);
     announcements(d);
 }
