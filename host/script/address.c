@@ -22,9 +22,10 @@ uint64_t address_of(const struct line *line, const struct word *word, const stru
     if (second == NULL)
         refuse(line, "%s '%s' has one slash: expected %s, such as 90001/12345/AB", value->name, shown(word).text,
             value->form);
-    struct word code = part(word->text, first), branch = part(first + 1, second), text = part(second + 1, end);
+    struct word left = part(word->text, first), branch = part(first + 1, second), text = part(second + 1, end);
+    uint64_t code = number_of(line, &left, value);
     address->is_long = 1;
     address->branch = number_of(line, &branch, &branch_value);
     put_text(address->text, line, &text, &text_value);
-    return number_of(line, &code, value);
+    return code;
 }
