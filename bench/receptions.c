@@ -1,8 +1,8 @@
 // Measures receptions by one tender, each by the tender that the reception before it gave, so that the
-// book is kept from one to the next: by value, and in place in a buffer through the C interface. The announcement is that of document 01's worked session, and the
-// applications are its first one with other senders, times and amounts; the session is read from the
-// file that the first argument names. With --check it only compares what the tender holds after
-// receptions, and the last reply.
+// book is kept from one to the next: by value, and in place in a buffer through the C interface. The
+// announcement is that of document 01's worked session, and the applications are its first one with other
+// senders, times and amounts; the session is read from the file that the first argument names. With --check
+// it only compares what the tender holds after receptions, and the last reply.
 #define _POSIX_C_SOURCE 200809L
 #include <stdbool.h>
 #include <stddef.h>
@@ -14,7 +14,8 @@
 
 #include "optes_book.h"
 
-enum { HEAD = 3, CLOCK = 14, ANNOUNCEMENT = 0xA1, RECEPTION = 0xA2, CONFIRMATION = 59, SPACE = 418 };
+enum { HEAD = 3, CLOCK = 14, ANNOUNCEMENT = 0xA1, RECEPTION = 0xA2, CONFIRMATION = 59 };
+enum { SPACE = OPTES_REPLY_BYTES };
 enum { RUNS = 200, RECEPTIONS = 2000, COMPARED = 200, FEW_CODES = 3, MOST_CODES = 64, FIRST_CODE = 90001 };
 
 // The bytes of an application, and where three of its numbers stand in it.

@@ -10,6 +10,11 @@ void whole_cases(const struct buffers *b);
 void writing_cases(const struct buffers *b);
 void application_cases(const struct buffers *b);
 
+// The same with addresses of the long form.
+void long_reading_cases(const struct buffers *b);
+void long_writing_cases(const struct buffers *b);
+void long_application_cases(const struct buffers *b);
+
 // The cases that need no buffers.
 void text_cases(void);
 

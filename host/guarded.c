@@ -39,6 +39,8 @@ void guarded_close(struct guarded *g)
 void buffers_open(struct buffers *b, enum guard guard)
 {
     guarded_open(&b->message, guard, 1);
+    guarded_open(&b->sender_text, guard, 1);
+    guarded_open(&b->recipient_text, guard, 1);
     guarded_open(&b->type, guard, 1);
     guarded_open(&b->identifier, guard, 1);
     guarded_open(&b->name, guard, 1);
@@ -49,6 +51,8 @@ void buffers_open(struct buffers *b, enum guard guard)
 void buffers_close(struct buffers *b)
 {
     guarded_close(&b->message);
+    guarded_close(&b->sender_text);
+    guarded_close(&b->recipient_text);
     guarded_close(&b->type);
     guarded_close(&b->identifier);
     guarded_close(&b->name);

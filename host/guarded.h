@@ -23,6 +23,8 @@ void guarded_close(struct guarded *g);
 // The buffers of one run with a 6G1, each on a page of its own.
 struct buffers {
     struct guarded message;
+    struct guarded sender_text;
+    struct guarded recipient_text;
     struct guarded type;
     struct guarded identifier;
     struct guarded name;

@@ -22,8 +22,12 @@ static void constants(void)
     CHECK(OPTES_6G1_SENDER_DIGITS == 5 && OPTES_6G1_RECIPIENT_DIGITS == 5 && OPTES_6G1_CRO_DIGITS == 11);
     CHECK(OPTES_6G1_DATE_DIGITS == 8 && OPTES_6G1_TIME_DIGITS == 6 && OPTES_6G1_CHECK_DIGITS == 5);
     CHECK(OPTES_6G1_RATE_DIGITS == 8 && OPTES_6G1_AMOUNT_DIGITS == 15);
-    CHECK(OPTES_6G1_NUMBERS == 45 && OPTES_6G1_PLACE_NUMBERS == 3);
-    CHECK(sizeof(struct optes_application) == 352 && sizeof(struct optes_place) == 24);
+    CHECK(OPTES_6G1_ONE_LONG_BYTES == 348 && OPTES_6G1_BOTH_LONG_BYTES == 357);
+    CHECK(OPTES_ADDRESS_SHORT == 5 && OPTES_ADDRESS_LONG == 14 && OPTES_ADDRESS_TEXT_BYTES == 2);
+    CHECK(OPTES_6G1_NUMBERS == 51 && OPTES_6G1_PLACE_NUMBERS == 3 && OPTES_6G1_ADDRESS_NUMBERS == 3);
+    CHECK(OPTES_6G1_NUMBERS_SENDER_ADDRESS == 45 && OPTES_6G1_NUMBERS_RECIPIENT_ADDRESS == 48);
+    CHECK(sizeof(struct optes_application) == 384 && sizeof(struct optes_place) == 24);
+    CHECK(sizeof(struct optes_address) == 16 && offsetof(struct optes_application, unread) == 344);
 }
 
 // One application written and read back, as a maker would.
@@ -60,6 +64,9 @@ static void cases(enum guard guard)
     whole_cases(&b);
     writing_cases(&b);
     application_cases(&b);
+    long_reading_cases(&b);
+    long_writing_cases(&b);
+    long_application_cases(&b);
     buffers_close(&b);
 }
 

@@ -1,4 +1,4 @@
-// A host in C++: one application written, read back and written again.
+// A host in C++: an application with addresses of either form written, read back and written again.
 #include "optes.h"
 
 #include <array>
@@ -10,6 +10,7 @@
 namespace {
 
 using Message = std::array<uint8_t, OPTES_6G1_BYTES>;
+using LongMessage = std::array<uint8_t, OPTES_6G1_BOTH_LONG_BYTES>;
 
 optes_application application()
 {
@@ -59,6 +60,57 @@ bool return_trip()
         && first == second;
 }
 
+// The long form of an address with this branch and text.
+optes_address branch(uint64_t number, const char *text)
+{
+    optes_address address{};
+    address.is_long = 1;
+    address.branch = number;
+    std::memcpy(address.text, text, sizeof address.text);
+    return address;
+}
+
+bool same(const optes_address &a, const optes_address &b)
+{
+    return a.is_long == b.is_long && a.branch == b.branch && std::memcmp(a.text, b.text, sizeof a.text) == 0;
+}
+
+// The same with these addresses, which make a message of so many bytes.
+bool long_return_trip(const optes_address &sender, const optes_address &recipient, size_t length)
+{
+    optes_application sent = application(), received{};
+    LongMessage first{}, second{};
+    sent.sender_address = sender;
+    sent.recipient_address = recipient;
+    return optes_application_length(&sent) == length
+        && optes_application_write(&sent, first.data(), length - 1) == OPTES_NO_ROOM && first == LongMessage{}
+        && optes_application_write(&sent, first.data(), first.size()) == OPTES_OK
+        && optes_application_read(&received, first.data(), length) == OPTES_OK
+        && same_numbers(received) && same_texts(received) && received.unread == 0
+        && same(received.sender_address, sender) && same(received.recipient_address, recipient)
+        && optes_application_write(&received, second.data(), length) == OPTES_OK && first == second;
+}
+
+bool long_return_trips()
+{
+    const optes_address none{}, sender = branch(12345, "AB"), recipient = branch(99999, "/\xff");
+    return long_return_trip(none, none, 339) && long_return_trip(sender, none, 348)
+        && long_return_trip(none, recipient, 348) && long_return_trip(sender, recipient, 357);
+}
+
+// A sender whose second slash is missing is not read, not even its code.
+bool misplaced()
+{
+    optes_application a = application();
+    LongMessage m{};
+    a.sender_address = branch(12345, "AB");
+    bool written = optes_application_write(&a, m.data(), m.size()) == OPTES_OK;
+    m[optes_6g1_start(m.data(), OPTES_6G1_ONE_LONG_BYTES, OPTES_6G1_SENDER) + 11] = ' ';
+    return written && optes_application_read(&a, m.data(), OPTES_6G1_ONE_LONG_BYTES) == OPTES_OK
+        && a.has_sender == 0 && a.sender == 0 && same(a.sender_address, optes_address{}) && a.unread == 1
+        && optes_application_write(&a, m.data(), m.size()) == OPTES_UNFIT;
+}
+
 // A short message, a rate of more than 32 bits and a short space.
 bool refusals()
 {
@@ -105,7 +157,7 @@ bool texts()
 
 int main()
 {
-    if (!return_trip() || !refusals() || !unread() || !texts()) {
+    if (!return_trip() || !long_return_trips() || !misplaced() || !refusals() || !unread() || !texts()) {
         std::fputs("host_cpp: the application does not read back, or a refusal or a text is missing\n", stderr);
         return 1;
     }

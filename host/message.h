@@ -25,6 +25,14 @@ struct number {
     uint64_t value;
 };
 
+// A text: its bytes, any, and how many.
+struct text {
+    const char *bytes;
+    size_t length;
+};
+
+#define TEXT(literal) ((struct text){literal, sizeof literal - 1})
+
 extern const char message[MESSAGE_BYTES + 1];
 extern const struct field fields[FIELDS];
 

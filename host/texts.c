@@ -17,13 +17,13 @@ static const struct said refusals[] = {
     {0, "not refused"}, {1, "fields, order or lengths"}, {2, "not 6G0 or its sender not 01000"},
     {3, "slash or identifier"}, {4, "types of operation"}, {5, "most bids"}, {6, "forward date"},
     {7, "strictly rising"}, {8, "is revoked"}, {9, "closed or announced"}, {10, "date or time is invalid"},
-    {11, "under 418"}, {12, "read as a 6G1"}, {13, "cut-off has not passed"}, {14, "is open"},
-    {15, "is announced"}, {16, "999,999,999,999,999,999"}, {17, "too wide"}, {18, "under 339"},
+    {11, "under 436"}, {12, "read as a 6G1"}, {13, "cut-off has not passed"}, {14, "is open"},
+    {15, "is announced"}, {16, "999,999,999,999,999,999"}, {17, "too wide"}, {18, "339, 348 or 357"},
     {100, "no tender"},
 };
 
 static const struct said errors[] = {
-    {900, "type is not 6G1"}, {309, "sender is not digits"}, {300, "not admitted"}, {599, "not 01000"},
+    {900, "type is not 6G1"}, {309, "sender is not digits, or a slash"}, {300, "not admitted"}, {599, "not 01000"},
     {521, "CRO"}, {502, "is no date"}, {522, "execution date"}, {503, "is no time"}, {302, "not later"},
     {908, "check digit"}, {303, "identifier"}, {901, "malformed"}, {902, "after a zero one"},
     {903, "more places"}, {904, "last three digits"}, {905, "below the minimum"}, {906, "multiple"},

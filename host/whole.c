@@ -1,5 +1,6 @@
-// A whole message read by one call: the numbers are those of the single calls, as many as the array has
-// room for.
+// The numbers of a whole message are those of the single calls, as many as the array has room for.
+#include "whole.h"
+
 #include <string.h>
 
 #include "cases.h"
@@ -28,7 +29,7 @@ static void expect_untouched(const uint64_t *numbers, size_t from, size_t count)
     pattern_expect((const uint8_t *)numbers, from * sizeof(uint64_t), count * sizeof(uint64_t));
 }
 
-// The 45 numbers that the single calls tell of the message.
+// The numbers that the single calls tell of the message, whose addresses are short.
 static void tell(uint64_t *told, const uint8_t *m)
 {
     for (uint32_t k = 0; k < DIGIT_FIELDS; k++) {
@@ -43,13 +44,16 @@ static void tell(uint64_t *told, const uint8_t *m)
     told[42] = optes_6g1_start(m, MESSAGE_BYTES, 0);
     told[43] = optes_6g1_start(m, MESSAGE_BYTES, 7);
     told[44] = optes_6g1_start(m, MESSAGE_BYTES, 9);
+    for (size_t k = 45; k < WHOLE_NUMBERS; k++)
+        told[k] = 0;
 }
 
-// An array of so many entries gets the numbers that it has room for, and those past the 45 stay.
-static void expect_read(const struct buffers *b, const uint8_t *m, const uint64_t *told, size_t count)
+// An array of so many entries gets the numbers that it has room for, and those past them stay.
+static void expect_read(const struct buffers *b, const uint8_t *m, size_t n, const uint64_t *told,
+    size_t count)
 {
-    struct answer a = asked(b, m, MESSAGE_BYTES, count);
-    size_t given = count < 45 ? count : 45;
+    struct answer a = asked(b, m, n, count);
+    size_t given = count < WHOLE_NUMBERS ? count : WHOLE_NUMBERS;
     CHECK(a.refusal == 0);
     for (size_t k = 0; k < given; k++)
         CHECK(a.numbers[k] == told[k]);
@@ -65,26 +69,33 @@ static void expect_refused(const struct buffers *b, const uint8_t *m, size_t n, 
 }
 
 // Arrays of every length from none to one more than the numbers, and a longer one.
-#define LENGTHS 48
+#define LENGTHS (WHOLE_NUMBERS + 3)
 
 static size_t length_of(size_t index)
 {
     return index < LENGTHS - 1 ? index : 90;
 }
 
+void expect_whole(const struct buffers *b, const uint8_t *m, size_t n, const uint64_t *told)
+{
+    for (size_t i = 0; i < LENGTHS; i++) {
+        if (told == NULL)
+            expect_refused(b, m, n, length_of(i));
+        else
+            expect_read(b, m, n, told, length_of(i));
+    }
+}
+
 // The n bytes into every array.
 static void every_array(const struct buffers *b, const uint8_t *m, size_t n)
 {
-    uint64_t told[45];
-    uint32_t unreadable = optes_6g1_read(m, n);
-    if (!unreadable)
-        tell(told, m);
-    for (size_t i = 0; i < LENGTHS; i++) {
-        if (unreadable)
-            expect_refused(b, m, n, length_of(i));
-        else
-            expect_read(b, m, told, length_of(i));
+    uint64_t told[WHOLE_NUMBERS];
+    if (optes_6g1_read(m, n)) {
+        expect_whole(b, m, n, NULL);
+        return;
     }
+    tell(told, m);
+    expect_whole(b, m, n, told);
 }
 
 // The message as it is: its numbers by document 01, at the indices of the header.
@@ -105,6 +116,10 @@ static void valid(const struct buffers *b)
     CHECK(told[OPTES_6G1_NUMBERS_TYPE] == fields[OPTES_6G1_TYPE].start);
     CHECK(told[OPTES_6G1_NUMBERS_IDENTIFIER] == fields[OPTES_6G1_IDENTIFIER].start);
     CHECK(told[OPTES_6G1_NUMBERS_NAME] == fields[OPTES_6G1_NAME].start);
+    for (size_t k = 0; k < OPTES_6G1_ADDRESS_NUMBERS; k++) {
+        CHECK(told[OPTES_6G1_NUMBERS_SENDER_ADDRESS + k] == 0);
+        CHECK(told[OPTES_6G1_NUMBERS_RECIPIENT_ADDRESS + k] == 0);
+    }
     CHECK(memcmp(m, message, MESSAGE_BYTES) == 0);
 }
 

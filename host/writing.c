@@ -7,13 +7,6 @@
 #include "optes.h"
 #include "pattern.h"
 
-struct text {
-    const char *bytes;
-    size_t length;
-};
-
-#define TEXT(literal) ((struct text){literal, sizeof literal - 1})
-
 // What a write takes: the six digit fields, the ten rates and the ten amounts; the texts; the length
 // of the space.
 struct writing {

@@ -38,7 +38,7 @@
 #define OPTES_BOOK_PLACES 640
 #define OPTES_BOOK_ERRORS 16
 #define OPTES_BOOK_IDENTIFIER_BYTES 11
-#define OPTES_REPLY_BYTES 418
+#define OPTES_REPLY_BYTES 436
 
 // The highest code that a counterparty may have.
 #define OPTES_BOOK_CODE_MOST 99999
@@ -132,7 +132,8 @@ static inline uint64_t optes_book_open(struct optes_book *b, const uint8_t *m, s
 
 // Receives the n bytes at m at this date and time, and writes the reply to the start of the space, which has
 // at least OPTES_REPLY_BYTES; the bytes past the reply stay as they were. A message with errors is answered
-// too, and changes nothing in the tender. Refused with 8 to 12, or OPTES_NO_TENDER.
+// too, and changes nothing in the tender. All branches of a code are one counterparty. Refused with 8 to 12, or
+// OPTES_NO_TENDER.
 static inline uint64_t optes_book_receive(struct optes_book *b, const uint8_t *m, size_t n, uint64_t date,
     uint64_t time, uint8_t *space, size_t room, struct optes_answer *answer)
 {

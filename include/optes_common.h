@@ -80,16 +80,16 @@ static inline const char *optes_refusal_text(uint64_t number)
     case OPTES_ALREADY_REVOKED: return "the tender is revoked";
     case OPTES_ALREADY_OVER: return "the tender is closed or announced";
     case OPTES_CLOCK_INVALID: return "the clock's date or time is invalid";
-    case OPTES_SPACE_SHORT: return "the space for the reply is under 418 bytes";
+    case OPTES_SPACE_SHORT: return "the space for the reply is under 436 bytes";
     case OPTES_UNREADABLE: return "the message cannot be read as a 6G1";
     case OPTES_BEFORE_CUT_OFF: return "the cut-off has not passed";
     case OPTES_STILL_OPEN: return "the tender is open";
     case OPTES_ALREADY_ANNOUNCED: return "the tender is announced";
     case OPTES_BIDS_EXCEED: return "the bids exceed 999,999,999,999,999,999 eurocents";
     case OPTES_UNFIT:
-        return "a number is too wide or was not read, a text is not of its length, or the identifier is "
-               "malformed";
-    case OPTES_NO_ROOM: return "the space for the message is under 339 bytes";
+        return "a number is too wide or was not read, a text is not of its length, an address is neither short "
+               "nor long, or the identifier is malformed";
+    case OPTES_NO_ROOM: return "the space for the message is under its 339, 348 or 357 bytes";
     case OPTES_NO_TENDER: return "there is no tender: what was lent is not as opening or another call left it";
     default: return "a number that no call returns";
     }
@@ -101,9 +101,9 @@ static inline const char *optes_error_text(uint64_t code)
 {
     switch (code) {
     case OPTES_ERROR_TYPE: return "the type is not 6G1";
-    case OPTES_ERROR_SENDER: return "the sender is not digits";
+    case OPTES_ERROR_SENDER: return "the sender is not digits, or a slash of its long form is misplaced";
     case OPTES_ERROR_NOT_ADMITTED: return "the sender is not admitted";
-    case OPTES_ERROR_RECIPIENT: return "the recipient is not 01000";
+    case OPTES_ERROR_RECIPIENT: return "the recipient's first five characters are not 01000";
     case OPTES_ERROR_CRO: return "the CRO is not digits";
     case OPTES_ERROR_DATE: return "the reference date is no date";
     case OPTES_ERROR_OTHER_DATE: return "the reference date is not the execution date";

@@ -10,7 +10,7 @@ unsigned long checks = 0;
 static void constants(void)
 {
     CHECK(OPTES_BOOK_WORDS == 1496 && OPTES_BOOK_CODES == 64 && OPTES_BOOK_PLACES == 640);
-    CHECK(OPTES_BOOK_CODE_PLACES == 10 && OPTES_BOOK_ERRORS == 16 && OPTES_REPLY_BYTES == 418);
+    CHECK(OPTES_BOOK_CODE_PLACES == 10 && OPTES_BOOK_ERRORS == 16 && OPTES_REPLY_BYTES == 436);
     CHECK(OPTES_BOOK_IDENTIFIER_BYTES == 11 && OPTES_BOOK_CODE_MOST == 99999);
     CHECK(OPTES_OK == 0 && OPTES_NOT_ANNOUNCEMENT == 1 && OPTES_OTHER_ORIGIN == 2 && OPTES_MALFORMED == 3);
     CHECK(OPTES_UNKNOWN_TYPE == 4 && OPTES_IMPOSSIBLE == 5 && OPTES_DISORDERED == 6 && OPTES_BAD_CODES == 7);
@@ -58,6 +58,7 @@ static void cases(enum guard guard)
     opening_cases(&d);
     receiving_cases(&d);
     error_cases(&d);
+    branch_cases(&d);
     ending_cases(&d);
     telling_cases(&d);
     saving_cases(&d);

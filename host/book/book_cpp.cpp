@@ -9,6 +9,7 @@
 namespace {
 
 using Message = std::array<uint8_t, OPTES_6G1_BYTES>;
+using LongMessage = std::array<uint8_t, OPTES_6G1_ONE_LONG_BYTES>;
 using Reply = std::array<uint8_t, OPTES_REPLY_BYTES>;
 
 constexpr std::array<uint32_t, 3> codes{90001, 90002, 90003};
@@ -28,10 +29,9 @@ bool open(optes_book &book)
                codes.data(), codes.size()) == OPTES_OK;
 }
 
-Message application(uint64_t code, uint64_t time, uint64_t rate, uint64_t amount)
+optes_application filled_in(uint64_t code, uint64_t time, uint64_t rate, uint64_t amount)
 {
     optes_application a{};
-    Message m{};
     a.sender = code;
     a.recipient = 1000;
     a.date = 12032012;
@@ -41,13 +41,34 @@ Message application(uint64_t code, uint64_t time, uint64_t rate, uint64_t amount
     std::memcpy(a.type, "6G1", sizeof a.type);
     std::memcpy(a.identifier, "T/2012/0001", sizeof a.identifier);
     std::memcpy(a.name, "Contact name   ", sizeof a.name);
-    if (optes_application_write(&a, m.data(), m.size()) != OPTES_OK)
+    return a;
+}
+
+template <typename Bytes> Bytes written(const optes_application &a)
+{
+    Bytes m{};
+    if (optes_application_length(&a) != m.size() || optes_application_write(&a, m.data(), m.size()) != OPTES_OK)
         std::fputs("book_cpp: an application is not written\n", stderr);
     return m;
 }
 
+Message application(uint64_t code, uint64_t time, uint64_t rate, uint64_t amount)
+{
+    return written<Message>(filled_in(code, time, rate, amount));
+}
+
+// The same of a branch of the code.
+LongMessage application_of(uint64_t branch, uint64_t code, uint64_t time, uint64_t rate, uint64_t amount)
+{
+    optes_application a = filled_in(code, time, rate, amount);
+    a.sender_address.is_long = 1;
+    a.sender_address.branch = branch;
+    std::memcpy(a.sender_address.text, "AB", sizeof a.sender_address.text);
+    return written<LongMessage>(a);
+}
+
 // Whether the message is received and answered by so many bytes and errors.
-bool answered(optes_book &book, const Message &m, uint64_t length, uint64_t errors)
+template <typename Bytes> bool answered(optes_book &book, const Bytes &m, uint64_t length, uint64_t errors)
 {
     Reply reply{};
     optes_answer answer{};
@@ -85,6 +106,17 @@ bool copies()
         && ends(copy, 41667, 25000, 33333) && ends(book, 22223, 60000, 17777);
 }
 
+// Two branches of 90002 and 90002 itself are one counterparty, so that the latest of their messages counts.
+bool branches()
+{
+    optes_book book{};
+    return open(book) && answered(book, application_of(12345, 90002, 102800, 150000, 50000), 68, 0)
+        && answered(book, application_of(99999, 90002, 102800, 150000, 60000), 387, 1)
+        && answered(book, application_of(99999, 90002, 102801, 150000, 40000), 68, 0) && fill(book)
+        && answered(book, application_of(12345, 90002, 102900, 150000, 60000), 387, 1)
+        && ends(book, 22223, 60000, 17777);
+}
+
 // What the tender tells, and the refusals where it has none.
 bool tells()
 {
@@ -106,10 +138,10 @@ bool tells()
 
 int main()
 {
-    if (!copies() || !tells()) {
+    if (!copies() || !branches() || !tells()) {
         std::fputs("book_cpp: a tender is not as it was in C\n", stderr);
         return 1;
     }
-    std::puts("book_cpp: two tenders are announced");
+    std::puts("book_cpp: three tenders are announced");
     return 0;
 }

@@ -63,29 +63,55 @@ void application_of(uint8_t *m, uint64_t code, uint64_t time, const struct bid *
     }
 }
 
+// Puts an address with its length byte, behind which it stands, at an index; gives the index past it.
+static size_t put_address(uint8_t *m, size_t at, struct address address)
+{
+    m[at - 1] = (uint8_t)address.length;
+    memcpy(m + at, address.bytes, address.length);
+    return at + address.length;
+}
+
+size_t with_addresses(uint8_t *to, const void *m, size_t n, struct address sender, struct address recipient)
+{
+    const uint8_t *from = m;
+    const size_t past = P_RECIPIENT + 5;
+    memcpy(to, from, P_SENDER);
+    size_t at = put_address(to, P_SENDER, sender);
+    memcpy(to + at, from + P_SENDER + 5, 3);
+    at = put_address(to, at + 3, recipient);
+    memcpy(to + at, from + past, n - past);
+    return at + n - past;
+}
+
+size_t confirmation_to(uint8_t *reply, const uint8_t *m, uint64_t time, struct address sender)
+{
+    const char head[] = "\x01\x00\x03" "6G2" "\x04\x00\x05" "01000" "\x05\x00.";
+    const char tail[] = "\x22\x00\x0b" "..........." "\x60\x00\x06" "......" "\x70\x00\x0b" "T/2012/0001";
+    memcpy(reply, head, sizeof head - 1);
+    size_t at = put_address(reply, sizeof head - 1, sender);
+    memcpy(reply + at, tail, sizeof tail - 1);
+    memcpy(reply + at + 3, m + P_CRO, 11);
+    put_number(reply, at + 17, 6, time);
+    return at + sizeof tail - 1;
+}
+
 size_t confirmation_of(uint8_t *reply, const uint8_t *m, uint64_t time)
 {
-    const char empty[CONFIRMATION_BYTES + 1] =
-        "\x01\x00\x03" "6G2"
-        "\x04\x00\x05" "01000"
-        "\x05\x00\x05" "....."
-        "\x22\x00\x0b" "..........."
-        "\x60\x00\x06" "......"
-        "\x70\x00\x0b" "T/2012/0001";
-    memcpy(reply, empty, CONFIRMATION_BYTES);
-    memcpy(reply + 17, m + P_SENDER, 5);
-    memcpy(reply + 25, m + P_CRO, 11);
-    put_number(reply, 39, 6, time);
-    return CONFIRMATION_BYTES;
+    return confirmation_to(reply, m, time, (struct address){(const char *)m + P_SENDER, 5});
+}
+
+size_t returned_of(uint8_t *reply, const uint8_t *m, size_t n, const char *errors)
+{
+    const char head[] = "\x98\x00\x18" "*** MESSAGGIO ERRATO ***" "\x98\x00";
+    size_t length = strlen(errors);
+    memcpy(reply, m, n);
+    memcpy(reply + n, head, sizeof head - 1);
+    reply[n + sizeof head - 1] = (uint8_t)length;
+    memcpy(reply + n + sizeof head, errors, length);
+    return n + sizeof head + length;
 }
 
 size_t returned_with(uint8_t *reply, const uint8_t *m, const char *errors)
 {
-    const char head[] = "\x98\x00\x18" "*** MESSAGGIO ERRATO ***" "\x98\x00";
-    size_t length = strlen(errors);
-    memcpy(reply, m, APPLICATION_BYTES);
-    memcpy(reply + APPLICATION_BYTES, head, sizeof head - 1);
-    reply[APPLICATION_BYTES + sizeof head - 1] = (uint8_t)length;
-    memcpy(reply + APPLICATION_BYTES + sizeof head, errors, length);
-    return APPLICATION_BYTES + sizeof head + length;
+    return returned_of(reply, m, APPLICATION_BYTES, errors);
 }

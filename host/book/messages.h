@@ -6,9 +6,10 @@
 #include <stdint.h>
 
 #define ANNOUNCEMENT_BYTES 225
+#define ANNOUNCEMENT_MOST 243
 #define APPLICATION_BYTES 339
-#define CONFIRMATION_BYTES 59
-#define REPLY_MOST 418
+#define APPLICATION_MOST 357
+#define REPLY_MOST 436
 #define PLACE_BYTES 24
 
 // Where the parts of an announcement stand.
@@ -35,16 +36,32 @@ struct bid {
 // The announcement with this text put in at this index.
 void announcement_with(uint8_t *m, size_t at, const char *text);
 
+// A sender or a recipient: its bytes, and how many, 5 or 14.
+struct address {
+    const char *bytes;
+    size_t length;
+};
+
+#define ADDRESS(literal) ((struct address){literal, sizeof literal - 1})
+
 // An application of this code, with this reference time and these bids.
 void application_of(uint8_t *m, uint64_t code, uint64_t time, const struct bid *bids, size_t count);
 
 // Puts a text in at an index.
 void put_text(uint8_t *m, size_t at, const char *text);
 
-// The confirmation of an application that was received at this time: its bytes, and how many.
-size_t confirmation_of(uint8_t *reply, const uint8_t *m, uint64_t time);
+// The message of n bytes at m, whose sender and recipient are short, with these in their place: its bytes, and
+// how many.
+size_t with_addresses(uint8_t *to, const void *m, size_t n, struct address sender, struct address recipient);
 
-// The application returned with these errors, as field 098 has them: its bytes, and how many.
+// The confirmation of an application that was received at this time: its bytes, and how many. The application has
+// a short sender, or had one before it got this one.
+size_t confirmation_of(uint8_t *reply, const uint8_t *m, uint64_t time);
+size_t confirmation_to(uint8_t *reply, const uint8_t *m, uint64_t time, struct address sender);
+
+// The application returned with these errors, as field 098 has them: its bytes, and how many. It has
+// APPLICATION_BYTES, or n.
 size_t returned_with(uint8_t *reply, const uint8_t *m, const char *errors);
+size_t returned_of(uint8_t *reply, const uint8_t *m, size_t n, const char *errors);
 
 #endif

@@ -65,17 +65,17 @@ static void replaces(const struct desk *d)
     expect_held(d, &b, 90002, NULL, NULL, 0);
 }
 
-// Every room below 418 bytes: 11. With more, the bytes past the reply stay.
+// Every room below 436 bytes: 11. With more, the bytes past the reply stay.
 static void rooms(const struct desk *d)
 {
     const struct optes_book before = opened(d);
     struct desk other = *d;
     uint8_t m[APPLICATION_BYTES], reply[REPLY_MOST];
     first_application(m);
-    for (other.room = 0; other.room <= 440; other.room++) {
+    for (other.room = 0; other.room <= 460; other.room++) {
         struct optes_book b = before;
-        CHECK(call_receive(&other, &b, m, sizeof m, in_time) == (other.room < 418 ? 11 : 0));
-        if (other.room >= 418)
+        CHECK(call_receive(&other, &b, m, sizeof m, in_time) == (other.room < 436 ? 11 : 0));
+        if (other.room >= 436)
             expect_reply(&other, reply, confirmation_of(reply, m, in_time.time), NULL, 0);
     }
 }
@@ -84,7 +84,7 @@ static void rooms(const struct desk *d)
 static void short_answers(const struct desk *d)
 {
     const struct optes_book before = opened(d);
-    const uint64_t expected[] = {418 - 40, 1, 302};
+    const uint64_t expected[] = {378, 1, 302};
     struct desk other = *d;
     uint8_t m[APPLICATION_BYTES];
     first_application(m);
@@ -135,7 +135,7 @@ static void first_refusal(const struct desk *d)
 {
     struct optes_book open = opened(d), over = closed(d), gone = revoked(d);
     struct desk less = *d;
-    less.room = 417;
+    less.room = 435;
     for (size_t k = 0; k < sizeof no_clocks / sizeof *no_clocks; k++) {
         CHECK(call_receive(&less, &gone, announcement, ANNOUNCEMENT_BYTES, no_clocks[k]) == 8);
         CHECK(call_receive(&less, &over, announcement, ANNOUNCEMENT_BYTES, no_clocks[k]) == 9);

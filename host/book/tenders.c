@@ -38,23 +38,27 @@ static void add(struct work *w, const void *from, size_t n)
         w->sum = (w->sum ^ bytes[i]) * UINT64_C(1099511628211);
 }
 
-// Up to three bids of one of seventy codes, of which 64 are admitted.
-static void some_application(uint8_t *m, uint64_t *seed)
+// Up to three bids of one of seventy codes, of which 64 are admitted; one half of them from a branch.
+static size_t some_application(uint8_t *m, uint64_t *seed)
 {
     struct bid bids[3];
+    uint8_t brief[APPLICATION_BYTES];
+    char sender[] = "...../12345/AB";
     size_t count = next(seed, 4);
     for (size_t k = 0; k < count; k++)
         bids[k] = (struct bid){1000 * (95 + next(seed, 10)), 5000 * (2 + next(seed, 20))};
     uint64_t code = 90001 + next(seed, 70);
-    application_of(m, code, 100000 + next(seed, 60), bids, count);
+    application_of(brief, code, 100000 + next(seed, 60), bids, count);
+    memcpy(sender, brief + P_SENDER, 5);
+    return with_addresses(m, brief, sizeof brief, (struct address){sender, next(seed, 2) ? 14 : 5}, ADDRESS("01000"));
 }
 
 static void receive(struct work *w, uint64_t *seed, struct optes_book *b)
 {
-    uint8_t m[APPLICATION_BYTES], space[OPTES_REPLY_BYTES] = {0};
+    uint8_t m[APPLICATION_MOST], space[OPTES_REPLY_BYTES] = {0};
     struct optes_answer answer = {0};
-    some_application(m, seed);
-    w->wrong += optes_book_receive(b, m, sizeof m, 12032012, 103000, space, sizeof space, &answer) != 0;
+    size_t n = some_application(m, seed);
+    w->wrong += optes_book_receive(b, m, n, 12032012, 103000, space, sizeof space, &answer) != 0;
     w->confirmed += answer.errors == 0;
     w->returned += answer.errors > 0;
     add(w, space, sizeof space);

@@ -3,6 +3,7 @@
 #include <stddef.h>
 #include <string.h>
 
+#include "address.h"
 #include "keys.h"
 #include "optes.h"
 
@@ -10,13 +11,14 @@
 
 static const char form[] = "apply DATE TIME CODE REFTIME RATE/AMOUNT .. KEY VALUE ..";
 
+static const struct value sender_value = {"code", ADDRESS_FORM, OPTES_6G1_SENDER_DIGITS};
 static const struct value time_value = {"reference time", "REFTIME hhmmss", OPTES_6G1_TIME_DIGITS};
 static const struct value rate_value = {"rate", "RATE in hundred-thousandths of a percent",
     OPTES_6G1_RATE_DIGITS};
 static const struct value amount_value = {"amount", "AMOUNT in eurocents", OPTES_6G1_AMOUNT_DIGITS};
 
 static const struct key keys[] = {
-    {{"recipient", "a code", OPTES_6G1_RECIPIENT_DIGITS}, TAKES_DIGITS, AT(recipient)},
+    {{"recipient", ADDRESS_FORM, OPTES_6G1_RECIPIENT_DIGITS}, TAKES_ADDRESS, AT(recipient)},
     {{"cro", "a number", OPTES_6G1_CRO_DIGITS}, TAKES_DIGITS, AT(cro)},
     {{"date", "ddmmyyyy", OPTES_6G1_DATE_DIGITS}, TAKES_DIGITS, AT(date)},
     {{"check", "a number", OPTES_6G1_CHECK_DIGITS}, TAKES_DIGITS, AT(check)},
@@ -27,8 +29,11 @@ static const struct key keys[] = {
 
 static void put(const struct line *line, const struct key *key, const struct word *word, void *into)
 {
+    struct optes_application *a = into;
     uint8_t *place = (uint8_t *)into + key->start;
-    if (key->takes == TAKES_DIGITS) {
+    if (key->takes == TAKES_ADDRESS) {
+        a->recipient = address_of(line, word, &key->value, &a->recipient_address);
+    } else if (key->takes == TAKES_DIGITS) {
         uint64_t number = number_of(line, word, &key->value);
         memcpy(place, &number, sizeof number);
     } else if (key->takes == TAKES_PADDED) {
@@ -86,14 +91,14 @@ void add_application(struct bytes *to, const struct line *line)
     add_clock(to, line, form);
     expect_words(line, 5, form);
     struct optes_application a = worked();
-    a.sender = number_of(line, &line->words[3], &code_value);
+    a.sender = address_of(line, &line->words[3], &sender_value, &a.sender_address);
     a.time = number_of(line, &line->words[4], &time_value);
     size_t next = read_bids(&a, line, 5);
     put_keys(line, next, keys, sizeof keys / sizeof *keys, put, &a);
 
-    uint8_t message[OPTES_6G1_BYTES];
+    uint8_t message[OPTES_6G1_BOTH_LONG_BYTES];
     struct word identifier = {(const char *)a.identifier, sizeof a.identifier, false};
     if (optes_application_write(&a, message, sizeof message) != OPTES_OK)
         refuse(line, "identifier '%s' is not T/yyyy/nnnn", shown(&identifier).text);
-    bytes_add(to, message, sizeof message);
+    bytes_add(to, message, optes_application_length(&a));
 }

@@ -7,9 +7,9 @@
 #include "line.h"
 #include "values.h"
 
-// Digits of at most the width, a text of the width, a text with blanks after it up to the width, or
-// LA or LP.
-enum takes { TAKES_DIGITS, TAKES_TEXT, TAKES_PADDED, TAKES_SIDE };
+// Digits of at most the width, a text of the width, a text with blanks after it up to the width, LA or LP, or an
+// address whose code has digits of at most the width.
+enum takes { TAKES_DIGITS, TAKES_TEXT, TAKES_PADDED, TAKES_SIDE, TAKES_ADDRESS };
 
 // A key by its value, whose name it has, what it takes, and where the value stands in what is written.
 struct key {

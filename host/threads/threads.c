@@ -27,6 +27,19 @@ static uint64_t next(uint64_t *seed, uint64_t limit)
     return (*seed >> 13) % limit;
 }
 
+// An address of either form.
+static struct optes_address address(uint64_t *seed)
+{
+    struct optes_address a = {0};
+    if (next(seed, 2) == 0)
+        return a;
+    a.is_long = 1;
+    a.branch = next(seed, 100000);
+    a.text[0] = (uint8_t)next(seed, 256);
+    a.text[1] = (uint8_t)next(seed, 256);
+    return a;
+}
+
 // An application that fits, except that one in eleven has a CRO that is too wide.
 static struct optes_application application(uint64_t *seed)
 {
@@ -40,6 +53,8 @@ static struct optes_application application(uint64_t *seed)
     memcpy(a.type, "6G1", sizeof a.type);
     memcpy(a.identifier, "T/2012/0001", sizeof a.identifier);
     memcpy(a.name, "Contact name   ", sizeof a.name);
+    a.sender_address = address(seed);
+    a.recipient_address = address(seed);
     return a;
 }
 
@@ -47,18 +62,18 @@ static struct optes_application application(uint64_t *seed)
 static int round_trip(const struct optes_application *a, uint8_t *bytes)
 {
     struct optes_application read;
-    uint8_t again[OPTES_6G1_BYTES];
-    uint32_t refusal = optes_application_write(a, bytes, OPTES_6G1_BYTES);
+    uint8_t again[OPTES_6G1_BOTH_LONG_BYTES];
+    const size_t n = optes_application_length(a);
+    uint32_t refusal = optes_application_write(a, bytes, n);
     if (a->cro > CRO_MOST)
         return refusal == OPTES_UNFIT;
-    return refusal == OPTES_OK && optes_application_read(&read, bytes, OPTES_6G1_BYTES) == OPTES_OK
-        && optes_application_write(&read, again, sizeof again) == OPTES_OK
-        && memcmp(bytes, again, sizeof again) == 0;
+    return refusal == OPTES_OK && optes_application_read(&read, bytes, n) == OPTES_OK
+        && optes_application_write(&read, again, n) == OPTES_OK && memcmp(bytes, again, n) == 0;
 }
 
 static void run(struct work *w)
 {
-    uint8_t bytes[OPTES_6G1_BYTES] = {0};
+    uint8_t bytes[OPTES_6G1_BOTH_LONG_BYTES] = {0};
     uint64_t seed = w->seed;
     for (uint64_t i = 0; i < w->rounds; i++) {
         struct optes_application a = application(&seed);
