@@ -8,9 +8,8 @@ use lib.Dec.{eqb}
 use lib.ListN.{length, drop, getD, drop-of-length-le}
 use lib.Seq.{drop-cons}
 use Rattle.texts.specs.Texts.{ascii}
-use Rattle.digits.specs.declared.Digits.{Digits}
-use Rattle.digits.specs.declared.Digits.the-variants.{Number, None}
-use Rattle.digits.specs.Decimal.{isNumber, numberIn}
+use Rattle.addresses.specs.declared.Address.{Address}
+use Rattle.addresses.specs.Addresses.{isAddress, codeIn}
 use Rattle.places.specs.Bids.{allFormed}
 use Rattle.places.specs.Bids
 use Rattle.places.specs.declared.Place.{Place}
@@ -31,16 +30,14 @@ added before between after es fs h k = k ∙ ap (λ (l : List Error). l ++ fs) h
 pub tested : (before after : List Error) (b d : Bool) (e : Error) → b ≡ d → after ≡ before ++ when b e → after ≡ before ++ when d e
 tested before after b d e h k = k ∙ ap (λ (x : Bool). before ++ when x e) h
 
--- the errors of a sender, by whether it is digits
-pub sender-known : (codes : List ℕ) (d : Digits) (admitted : Bool) → isNumber d ≡ true → admitted ≡ any (eqb (numberIn d)) codes → when (not admitted) (ascii "040", 300) ≡ senderErrors codes d
+-- the errors of a sender, by whether it is an address
+pub sender-known : (codes : List ℕ) (s : Address) (admitted : Bool) → isAddress s ≡ true → admitted ≡ any (eqb (codeIn s)) codes → when (not admitted) (ascii "040", 300) ≡ senderErrors codes s
 unfolding senderErrors
-sender-known codes None admitted h k = absurd (false≢true h)
-sender-known codes (Number c) admitted h k = rw k refl
+sender-known codes s admitted h k = rw (h, k) refl
 
-pub sender-unknown : (codes : List ℕ) (d : Digits) → isNumber d ≡ false → when true (ascii "040", 309) ≡ senderErrors codes d
+pub sender-unknown : (codes : List ℕ) (s : Address) → isAddress s ≡ false → when true (ascii "040", 309) ≡ senderErrors codes s
 unfolding senderErrors when
-sender-unknown codes None h = refl
-sender-unknown codes (Number c) h = absurd (false≢true (sym h))
+sender-unknown codes s h = rw h refl
 
 -- the loop over places that are well formed: one more, and the end
 pub formed-more : (ok : Bool) (formed : List Bool) (k : ℕ) → k < length formed → ((ok && getD formed k false) && allFormed (drop (k + 1) formed)) ≡ (ok && allFormed (drop k formed))

@@ -4,8 +4,10 @@ use mathlib.Core.Bool.{Bool, not, cond}
 use mathlib.Core.List.{List, [], _∷_, _++_}
 use Prim.Native.Nat.{ℕ, _≤_}
 use lib.Dec.{eqb}
+use lib.ListN.{take}
 use Rattle.texts.specs.Texts.{ascii, sameText}
-use Rattle.digits.specs.Decimal.{isNumber, numberIn}
+use Rattle.digits.specs.Decimal.{isNumber}
+use Rattle.addresses.specs.Addresses.{codeIn}
 use Rattle.places.specs.Bids.{allFormed}
 use Rattle.places.specs.declared.Places.{Places}
 use Rattle.envelope.specs.declared.application.Field.the-variants.{MessageType, Recipient, Identifier}
@@ -29,7 +31,7 @@ unfoldable pub headErrors : rules.Terms → List ℕ → Fields → List Error
 headErrors t m f =
     when (not (sameText (bytesOf MessageType m) (ascii "6G1"))) (ascii "001", 900)
     ++ senderErrors (t .admission .codes) (f .sender)
-    ++ when (not (sameText (bytesOf Recipient m) (ascii "01000"))) (ascii "050", 599)
+    ++ when (not (sameText (take 5 (bytesOf Recipient m)) (ascii "01000"))) (ascii "050", 599)
     ++ when (not (isNumber (f .cro))) (ascii "020", 521)
     ++ dateErrors (t .execution) (f .date)
     ++ when (not (isTime (f .time))) (ascii "601", 503)
@@ -42,7 +44,7 @@ receptionOf m day second space = record { message = m; date = day; time = second
 
 -- whether the sender is admitted was asked before
 abbrev pub Admits : Admission → Fields → Bool → Type 0
-Admits a f admitted = admitted ≡ any (eqb (numberIn (f .sender))) (a .codes)
+Admits a f admitted = admitted ≡ any (eqb (codeIn (f .sender))) (a .codes)
 
 -- the errors of the fields before the places, whatever the admission is to which the sender belongs or not; at most eight
 abbrev pub HeadErrors : Terms → List ℕ → Fields → Bool → Errors → Type 0

@@ -1,4 +1,6 @@
 // Errors added group by group; each group asks for its free places.
+use addresses::Address;
+use addresses::has_address;
 use bids::any_fine;
 use bids::any_small;
 use bids::any_uneven;
@@ -27,9 +29,10 @@ ghost use mathlib.Core.Bool.{true, not};
 ghost use mathlib.Core.List.{List, [], _++_};
 ghost use Prim.Native.Nat.{ℕ, _+_, _≤_, _<_};
 ghost use lib.Dec.{eqb};
+ghost use lib.ListN.{take};
 ghost use Rattle.texts.specs.Texts.{ascii, sameText};
 ghost use Rattle.layout.specs.Fields.{readable};
-ghost use Rattle.digits.specs.Decimal.{numberIn};
+ghost use Rattle.addresses.specs.Addresses.{codeIn};
 ghost use Rattle.places.specs.Bids.{allFormed};
 ghost use Rattle.envelope.specs.declared.application.Field.the-variants.{MessageType, Recipient, Identifier};
 ghost use Rattle.envelope.specs.Application.{layout6G1, bytesOf, fieldsOf};
@@ -48,12 +51,13 @@ fn other_type(m: &[u8]) -> bool
     !same(bytes_in(m, Field::MessageType), b"6G1")
 }
 
-// Whether the recipient is another than 01000.
+// Whether the recipient is another than 01000, of which its first five bytes tell.
 fn other_recipient(m: &[u8]) -> bool
     requires { ⌜ readable layout6G1 (now m) ≡ true ⌝ }
-    ensures { λ r. ⌜ r ≡ not (sameText (bytesOf Recipient (now (m .entry))) (ascii "01000")) ⌝ }
+    ensures { λ r. ⌜ r ≡ not (sameText (take 5 (bytesOf Recipient (now (m .entry)))) (ascii "01000")) ⌝ }
 {
-    !same(bytes_in(m, Field::Recipient), b"01000")
+    let recipient = bytes_in(m, Field::Recipient);
+    !same(&recipient[0..5], b"01000")
 }
 
 // Whether the identifier is another than the tender's.
@@ -64,12 +68,12 @@ fn other_identifier(m: &[u8], identifier: [u8; 11]) -> bool
     !same(bytes_in(m, Field::Identifier), &identifier)
 }
 
-// The error of a sender; whether its number is an admitted code is told.
-pub fn sender_errors(e: Errors, sender: Digits, admitted: bool) -> Errors
+// The error of a sender; whether its code is admitted is told.
+pub fn sender_errors(e: Errors, sender: Address, admitted: bool) -> Errors
     requires { ⌜ e .n < 16 ⌝ }
-    ensures { λ r. ⌜ ((codes : List ℕ) → admitted ≡ any (eqb (numberIn sender)) codes → listed r ≡ listed e ++ senderErrors codes sender) × (r .n ≤ e .n + 1) ⌝ }
+    ensures { λ r. ⌜ ((codes : List ℕ) → admitted ≡ any (eqb (codeIn sender)) codes → listed r ≡ listed e ++ senderErrors codes sender) × (r .n ≤ e .n + 1) ⌝ }
 {
-    if has_number(sender) {
+    if has_address(sender) {
         return with(e, !admitted, 300);
     }
     with(e, true, 309)

@@ -5,7 +5,7 @@ use mathlib.Core.List.{List}
 use mathlib.Core.Option.{Option, none}
 use Prim.Native.Nat.{ℕ}
 use lib.ListN.{set}
-use Rattle.digits.specs.Decimal.{numberIn}
+use Rattle.addresses.specs.Addresses.{codeIn}
 use Rattle.envelope.specs.Refusals.{unlessRefused}
 use Rattle.envelope.specs.Application.{fieldsOf}
 use Rattle.rules.specs.Calls as rules
@@ -23,9 +23,9 @@ use Rattle.outcomes.specs.Answers.{answerOf, unlessConfirmed, Answers}
 use Rattle.buffer.specs.Words.{bookIn, tenderIn, isTender, holding}
 use Rattle.in_place.specs.declared.internal.Told.{Told}
 
--- where the sender of a message stands in the book, and what is accepted of the message
+-- where the code of a message's sender stands in the book, and what is accepted of the message
 abbrev pub senderIn : List ℕ → List ℕ → Found
-senderIn ws m = findFrom (viewed (bookIn ws)) (numberIn (fieldsOf m .sender)) 0
+senderIn ws m = findFrom (viewed (bookIn ws)) (codeIn (fieldsOf m .sender)) 0
 
 abbrev pub acceptedIn : List ℕ → List ℕ → Accepted
 acceptedIn ws m = acceptedOf (senderIn ws m) (fieldsOf m)

@@ -1,4 +1,5 @@
 // Each call asks for words that hold a tender, and leaves such words.
+use addresses::code_of;
 use book::up_to_64;
 use buffer::internal::terms_in;
 use buffer::narrow;
@@ -54,7 +55,7 @@ pub fn outcome_in(words: &[u64], m: &[u8], date: u64, time: u64, room: usize) ->
     let fields = checked.fields;
     let sender = fields.sender;
     let reference = fields.time;
-    let found = find(words, number_of(sender));
+    let found = find(words, code_of(sender));
     let sent = number_of(reference);
     let taken = takes(words, found, sent);
     let terms = terms_in(words);

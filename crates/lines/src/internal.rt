@@ -1,5 +1,6 @@
 // Lines written into a lent space from its start. Of a reception s begins with its date and time, and m is its message.
 use digits::internal::put_digits;
+use envelope::internal::sender_code;
 use errors::Errors;
 use output::internal::put;
 use output::internal::put_byte;
@@ -29,21 +30,13 @@ fn put_clock(space: &mut [u8], kind: u8, s: &[u8]) -> usize
     put(space, time, &s[8..14])
 }
 
-// The first five bytes of the sender of a message.
-fn sender_in(m: &[u8]) -> &[u8]
-    requires { ⌜ readable layout6G1 (now m) ≡ true ⌝ }
-    ensures { λ r. ⌜ (now r ≡ senderOf (now (m .entry))) × (length (now r) ≡ 5) ⌝ }
-{
-    &m[9..14]
-}
-
-// Writes a blank and those bytes.
+// Writes a blank and the first five bytes of the sender of a message.
 fn put_sender(space: &mut [u8], at: usize, m: &[u8]) -> usize
     requires { ⌜ readable layout6G1 (now m) ≡ true ⌝ }
     requires { ⌜ at + 6 ≤ length (now space) ⌝ }
     ensures { λ r. ⌜ Wrote (now (space .entry)) at (ascii " " ++ senderOf (now (m .entry))) (now (space .exit)) r × (r ≡ at + 6) ⌝ }
 {
-    let sender = sender_in(m);
+    let sender = sender_code(m);
     let start = put_byte(space, at, b' ');
     put(space, start, sender)
 }

@@ -2,11 +2,13 @@
 use mathlib.Core.Bool.{Bool, true, _&&_}
 use mathlib.Core.List.{List, [], _∷_, _++_}
 use Prim.Native.Nat.{ℕ}
+use Prim.Native.String.{String}
 use lib.Dec.{T}
 use Rattle.digits.specs.Decimal.{digits}
 use Rattle.layout.specs.Fields.{field}
 use Rattle.texts.specs.Texts.{sameText, ascii}
-use Rattle.rules.specs.Messages.{announcement, message}
+use Rattle.envelope.specs.declared.application.Field.the-variants.{Sender}
+use Rattle.rules.specs.Messages.{_is_, announcement, Pairs, message, messageWith}
 use Rattle.log.specs.Lines.{lineEnd}
 use Rattle.log.specs.Steps.{logOf}
 
@@ -54,10 +56,35 @@ applicationBy code = receivedAt 103000 (message code 102900 ((120000, 10000) ∷
 unfoldable pub confirmedAs : List ℕ → List ℕ
 confirmedAs code = ascii "C 12032012 103000 " ++ code ++ lineEnd
 
+-- an application from a branch at a reference time, and branches of one code at work: the second is late with the time of the first, then
+-- its bid replaces the other's; a branch that is none of a code
+unfoldable pub applicationFrom : String → ℕ → Pairs → List ℕ
+applicationFrom sender time ps = receivedAt 103000 (messageWith (Sender is sender ∷ []) 90001 time ps)
+
+unfoldable pub branches : List ℕ
+branches =
+    openingFields
+    ++ applicationFrom "90001/00117/AB" 102900 ((120000, 10000) ∷ [])
+    ++ applicationFrom "90001/00118/CD" 102900 ((130000, 20000) ∷ [])
+    ++ applicationFrom "90001/00118/CD" 102901 ((130000, 20000) ∷ [])
+    ++ applicationFrom "9000A/00118/CD" 102902 ((130000, 20000) ∷ [])
+    ++ field 0xA3 (ascii "12032012110001")
+    ++ field 0xA5 []
+
+-- 'code is the sender's first five bytes'
+unfoldable pub branchesPrinted : List ℕ
+branchesPrinted =
+    confirmedAs (ascii "90001")
+    ++ (ascii "R 12032012 103000 90001 601 - 302" ++ lineEnd)
+    ++ confirmedAs (ascii "90001")
+    ++ (ascii "R 12032012 103000 9000A 040 - 309" ++ lineEnd)
+    ++ (ascii "W 90001 01 00130000 000000000020000" ++ lineEnd)
+
 -- sessions and their logs
 unfoldable pub sessions : List (List ℕ × List ℕ)
 sessions =
     (session, printed)
+    ∷ (branches, branchesPrinted)
     -- before an accepted A1 fields are skipped, and a refused A1 is none
     ∷ (applicationBy 90001 ++ field 0xA3 (ascii "12032012110001") ++ field 0xA4 [] ++ field 0xA5 [] ++ field 0xA1 [], refusedWith (ascii "01"))
     ∷ (field 0xA1 [] ++ field 0xA5 [], refusedWith (ascii "01"))

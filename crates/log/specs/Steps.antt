@@ -11,7 +11,7 @@ use Rattle.digits.specs.Decimal.{allDigits, digitsOf, numberIn}
 use Rattle.layout.specs.Fields.{lengthAt}
 use Rattle.rules.specs.Opening.{Admission, admitting}
 use Rattle.rules.specs.Receiving.{Reception}
-use Rattle.rules.specs.Calls.{Tender, Answer, confirmed, returned, refused, Allotted, openTender, receive, close, allot, revoke}
+use Rattle.rules.specs.Calls.{Tender, Answer, confirmed, returned, refused, replySpace, Allotted, openTender, receive, close, allot, revoke}
 use Rattle.log.specs.Lines.{confirmedLine, returnedLine, refusedLine, awardLines}
 
 -- whether the log has ended, whom the last A0 admits, and the tender of the last accepted A1, if there was one
@@ -76,7 +76,7 @@ timeOf s = numberIn (digitsOf (timeIn s))
 
 -- a reception has space enough for any reply
 unfoldable pub receptionIn : List ℕ → Reception
-receptionIn s = record { message = drop 14 s; date = dateOf s; time = timeOf s; space = replicate 418 0 }
+receptionIn s = record { message = drop 14 s; date = dateOf s; time = timeOf s; space = replicate replySpace 0 }
 
 unfoldable pub answerLine : Answer → List ℕ → List ℕ
 answerLine (confirmed n) s = confirmedLine (dateIn s) (timeIn s) (drop 14 s)

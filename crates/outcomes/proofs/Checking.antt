@@ -14,7 +14,7 @@ use Rattle.envelope.specs.declared.application.Fields.{Fields}
 use Rattle.envelope.specs.Application.{unreadable, reading, readRefusal}
 use Rattle.rules.specs.Opening.{Terms}
 use Rattle.rules.specs.Receiving.{Entry}
-use Rattle.rules.specs.Calls.{isRevoked, isOver, clockInvalid, spaceShort, receivingRefused}
+use Rattle.rules.specs.Calls.{isRevoked, isOver, clockInvalid, replySpace, spaceShort, receivingRefused}
 use Rattle.rules.proofs.Opening.{next-condition}
 use Rattle.checks.specs.Columns.{receptionOf}
 use Rattle.refusals.specs.declared.State.{State}
@@ -27,16 +27,16 @@ use Rattle.outcomes.proofs.Reading.{number-read, readable-read, fields-
 
 module _ (state : State) (m : List ℕ) (date time room : ℕ) (c : Checked) where
   abbrev first-four : List (ℕ × Bool)
-  first-four = (8, isRevoked (stateOf state)) ∷ (9, isOver (stateOf state)) ∷ (10, clockInvalid date time) ∷ (11, ltb room 418) ∷ []
+  first-four = (8, isRevoked (stateOf state)) ∷ (9, isOver (stateOf state)) ∷ (10, clockInvalid date time) ∷ (11, ltb room replySpace) ∷ []
 
   abbrev all-five : List (ℕ × Bool)
-  all-five = (8, isRevoked (stateOf state)) ∷ (9, isOver (stateOf state)) ∷ (10, clockInvalid date time) ∷ (11, ltb room 418) ∷ (12, unreadable m) ∷ []
+  all-five = (8, isRevoked (stateOf state)) ∷ (9, isOver (stateOf state)) ∷ (10, clockInvalid date time) ∷ (11, ltb room replySpace) ∷ (12, unreadable m) ∷ []
 
   -- the length of the space is all that is asked of it
   asked : (t : Terms) (book : List Entry) (space : List ℕ) → length space ≡ room → receivingRefused (tenderIn t state book) (receptionOf m date time space) ≡ firstHolding all-five
   unfolding receivingRefused spaceShort
   asked t book space e =
-      ap (λ (n : ℕ). firstHolding ((8, isRevoked (stateOf state)) ∷ (9, isOver (stateOf state)) ∷ (10, clockInvalid date time) ∷ (11, ltb n 418) ∷ (12, unreadable m) ∷ [])) e
+      ap (λ (n : ℕ). firstHolding ((8, isRevoked (stateOf state)) ∷ (9, isOver (stateOf state)) ∷ (10, clockInvalid date time) ∷ (11, ltb n replySpace) ∷ (12, unreadable m) ∷ [])) e
 
   pub checks-first : refusalNumber (c .refusal) ≡ notReceiving (stateOf state) date time room → isSome (refusalNumber (c .refusal)) ≡ true → Checks state m date time room c
   checks-first e h =
@@ -51,7 +51,7 @@ module _ (state : State) (m : List ℕ) (date time room : ℕ) (c : Checked) whe
 
   module _ (first : Refusal) (e : refusalNumber first ≡ notReceiving (stateOf state) date time room) (h : isSome (refusalNumber first) ≡ false)
       (a : ReadAnswer) (told : refusalNumber (c .refusal) ≡ readRefusal a) (is-read : _≡_ {A = Option ℕ × Fields} (readRefusal a, c .fields) (reading m)) where
-    ten : (clockInvalid date time ≡ false) × (firstHolding ((11, ltb room 418) ∷ []) ≡ none)
+    ten : (clockInvalid date time ≡ false) × (firstHolding ((11, ltb room replySpace) ∷ []) ≡ none)
     ten =
         let eight = next-condition 8 (isRevoked (stateOf state)) _ (sym e ∙ none-of (refusalNumber first) h) in
         let nine = next-condition 9 (isOver (stateOf state)) _ (eight .1) in
@@ -66,7 +66,7 @@ module _ (state : State) (m : List ℕ) (date time room : ℕ) (c : Checked) whe
         record {
           number = λ t book space l.
               sym (asked t book space l ∙ refused-later first-four ((12, unreadable m) ∷ []) (refusalNumber first) e h ∙ number-read m a (c .fields) is-read ∙ sym told);
-          roomy = λ q. ltb-false room 418 (next-condition 11 (ltb room 418) [] (ten .1) .0);
+          roomy = λ q. ltb-false room replySpace (next-condition 11 (ltb room replySpace) [] (ten .1) .0);
           readable-told = λ q. readable-read m a (c .fields) is-read (sym told ∙ q);
           fields-are = λ q. fields-read m a (c .fields) is-read (sym told ∙ q);
           clock-valid = λ q. valid;

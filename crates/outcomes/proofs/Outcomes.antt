@@ -6,6 +6,7 @@ use mathlib.Core.Option.{none}
 use Prim.Native.Nat.{ℕ}
 use native.Mathlib.Omega.{arith}
 use Rattle.digits.specs.Decimal.{numberIn}
+use Rattle.addresses.specs.Addresses.{codeIn}
 use Rattle.book.specs.declared.Book.{Book}
 use Rattle.book.specs.declared.Found.{Found}
 use Rattle.book.specs.Viewed as book
@@ -34,7 +35,7 @@ module _ (state : State) (t : Terms) (b : Book) (m : List ℕ) (date time room :
         within = omega (arith, first);
       }
 
-  pub comes-judged : refusalNumber (c .refusal) ≡ none → (found : Found) (taken : Bool) → Stands b (numberIn (c .fields .sender)) (numberIn (c .fields .time)) found taken
+  pub comes-judged : refusalNumber (c .refusal) ≡ none → (found : Found) (taken : Bool) → Stands b (codeIn (c .fields .sender)) (numberIn (c .fields .time)) found taken
       → LeavesInAny t found taken m (c .fields) date time o → ComesTo (viewedOf state t b) m date time room o
   comes-judged q found taken s l =
       record {
@@ -43,5 +44,5 @@ module _ (state : State) (t : Terms) (b : Book) (m : List ℕ) (date time room :
         readable-told = λ p. checks .readable-told q;
         left = λ p space. l .3 b s state space;
         few = l .1;
-        within = let k = index-below b (numberIn (c .fields .sender)) found (s .found-is) in omega (arith, k, ap (λ (a : Accepted). a .at) (l .2));
+        within = let k = index-below b (codeIn (c .fields .sender)) found (s .found-is) in omega (arith, k, ap (λ (a : Accepted). a .at) (l .2));
       }

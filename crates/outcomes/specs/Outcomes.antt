@@ -8,6 +8,7 @@ use lib.Dec.{eqb, ltb}
 use lib.ListN.{length}
 use Rattle.calendar.specs.Calendar.{validDate, validTime}
 use Rattle.digits.specs.Decimal.{numberIn}
+use Rattle.addresses.specs.Addresses.{codeIn}
 use Rattle.layout.specs.Fields.{readable}
 use Rattle.envelope.specs.Refusals.{firstHolding}
 use Rattle.envelope.specs.declared.application.Fields.{Fields}
@@ -61,14 +62,14 @@ LeavesInAny terms found taken m f date time o =
     × (o .errors .n ≤ 16)
     × (o .accepted ≡ acceptedOf found f)
     × ((b : Book)
-    → Stands b (numberIn (f .sender)) (numberIn (f .time)) found taken
+    → Stands b (codeIn (f .sender)) (numberIn (f .time)) found taken
     → (s : State) (space : List ℕ)
     → Left (viewedOf s terms b) (receptionOf m date time space) o)
 
 -- conditions 8 to 11
 abbrev pub notReceiving : rules.State → ℕ → ℕ → ℕ → Option ℕ
 notReceiving s date time room =
-    firstHolding ((8, rules.isRevoked s) ∷ (9, rules.isOver s) ∷ (10, rules.clockInvalid date time) ∷ (11, ltb room 418) ∷ [])
+    firstHolding ((8, rules.isRevoked s) ∷ (9, rules.isOver s) ∷ (10, rules.clockInvalid date time) ∷ (11, ltb room rules.replySpace) ∷ [])
 
 -- conditions 8 to 12 of a message, in any space with so much room, whatever the terms and the book; and what is known where none holds
 pub record Checks (state : State) (m : List ℕ) (date time room : ℕ) (c : Checked) : Type 0 where
@@ -76,7 +77,7 @@ pub record Checks (state : State) (m : List ℕ) (date time room : ℕ) (c : Che
       (t : opening.Terms) (book : List Entry) (space : List ℕ)
       → length space ≡ room
       → refusalNumber (c .refusal) ≡ rules.receivingRefused (tenderIn t state book) (receptionOf m date time space)
-  pub roomy : refusalNumber (c .refusal) ≡ none → 418 ≤ room
+  pub roomy : refusalNumber (c .refusal) ≡ none → rules.replySpace ≤ room
   pub readable-told : refusalNumber (c .refusal) ≡ none → readable layout6G1 m ≡ true
   pub fields-are : refusalNumber (c .refusal) ≡ none → c .fields ≡ fieldsOf m
   pub clock-valid : refusalNumber (c .refusal) ≡ none → validDate date && validTime time ≡ true
@@ -84,7 +85,7 @@ pub record Checks (state : State) (m : List ℕ) (date time room : ℕ) (c : Che
 -- what the reception of a message comes to, in any space with so much room
 pub record ComesTo (t : rules.Tender) (m : List ℕ) (date time room : ℕ) (o : Outcome) : Type 0 where
   pub number : (space : List ℕ) → length space ≡ room → refusalNumber (o .refusal) ≡ rules.receivingRefused t (receptionOf m date time space)
-  pub roomy : refusalNumber (o .refusal) ≡ none → 418 ≤ room
+  pub roomy : refusalNumber (o .refusal) ≡ none → rules.replySpace ≤ room
   pub readable-told : refusalNumber (o .refusal) ≡ none → readable layout6G1 m ≡ true
   pub left : refusalNumber (o .refusal) ≡ none → (space : List ℕ) → Left t (receptionOf m date time space) o
   pub few : o .errors .n ≤ 16

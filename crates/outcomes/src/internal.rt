@@ -96,7 +96,7 @@ fn not_receiving(state: State, date: u64, time: u64, room: usize) -> Refusal
     if is_refused(first) {
         return first;
     }
-    if room < 418 {
+    if room < 436 {
         return Refusal::SpaceShort;
     }
     Refusal::None

@@ -5,6 +5,7 @@ use mathlib.Core.List.{List, [], _∷_, map}
 use Prim.Native.Nat.{ℕ}
 use Rattle.calendar.specs.Calendar.{validDate, validTime}
 use Rattle.digits.specs.Decimal.{numberIn}
+use Rattle.addresses.specs.Addresses.{codeIn}
 use Rattle.layout.specs.Fields.{readable}
 use Rattle.texts.specs.Texts.{ascii}
 use Rattle.places.specs.Bids
@@ -24,11 +25,11 @@ unfolding fieldsOf Bids.placesOf bidsIn
 bids-of m = bids-ten (bytesOf Bids m)
 
 -- what the code takes from the fields of a message
-pub taken-from : (m : List ℕ) (f : Fields) (code time : ℕ) → f ≡ fieldsOf m → code ≡ numberIn (f .sender) → time ≡ numberIn (f .time)
-    → soundFrom (numberIn (fieldsOf m .sender)) (numberIn (fieldsOf m .time)) (messageBids m) ≡ soundFrom code time (bidsFrom (f .places .rates) (f .places .amounts) 0 10)
+pub taken-from : (m : List ℕ) (f : Fields) (code time : ℕ) → f ≡ fieldsOf m → code ≡ codeIn (f .sender) → time ≡ numberIn (f .time)
+    → soundFrom (codeIn (fieldsOf m .sender)) (numberIn (fieldsOf m .time)) (messageBids m) ≡ soundFrom code time (bidsFrom (f .places .rates) (f .places .amounts) 0 10)
 taken-from m f code time e c h =
-    ap (soundFrom (numberIn (fieldsOf m .sender)) (numberIn (fieldsOf m .time))) (sym (bids-of m))
-    ∙ ap (λ (g : Fields). soundFrom (numberIn (g .sender)) (numberIn (g .time)) (bidsFrom (g .places .rates) (g .places .amounts) 0 10)) (sym e)
+    ap (soundFrom (codeIn (fieldsOf m .sender)) (numberIn (fieldsOf m .time))) (sym (bids-of m))
+    ∙ ap (λ (g : Fields). soundFrom (codeIn (g .sender)) (numberIn (g .time)) (bidsFrom (g .places .rates) (g .places .amounts) 0 10)) (sym e)
     ∙ ap₂ (λ (x y : ℕ). soundFrom x y (bidsFrom (f .places .rates) (f .places .amounts) 0 10)) (sym c) (sym h)
 
 module _ (t : Terms) (book : List Entry) (r : Reception) where
@@ -46,9 +47,9 @@ module _ (t : Terms) (book : List Entry) (r : Reception) where
 
   -- a sound message is what the code takes it for
   pub submission-is : readable layout6G1 (r .message) ≡ true → (validDate (r .date) && validTime (r .time)) ≡ true → isEmpty (errors t r) ≡ true
-      → submission t r ≡ soundFrom (numberIn (fieldsOf (r .message) .sender)) (numberIn (fieldsOf (r .message) .time)) (messageBids (r .message))
+      → submission t r ≡ soundFrom (codeIn (fieldsOf (r .message) .sender)) (numberIn (fieldsOf (r .message) .time)) (messageBids (r .message))
   unfolding submission isSound
-  submission-is a b c = ap (λ (x : Bool). record { sound = x; code = numberIn (fieldsOf (r .message) .sender); time = numberIn (fieldsOf (r .message) .time); bids = messageBids (r .message) }) (rw (a, b, c) refl)
+  submission-is a b c = ap (λ (x : Bool). record { sound = x; code = codeIn (fieldsOf (r .message) .sender); time = numberIn (fieldsOf (r .message) .time); bids = messageBids (r .message) }) (rw (a, b, c) refl)
 
   module _ (s : Submission) (q : submission t r ≡ s) (f : isEmpty (errors t r) ≡ true) where
     returned-is : returnedErrors t book r ≡ when (not (any (takes s) book)) (ascii "601", 302)

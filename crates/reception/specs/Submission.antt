@@ -5,6 +5,7 @@ use mathlib.Core.List.{List}
 use Prim.Native.Nat.{ℕ, _≤_}
 use lib.Dec.{eqb}
 use Rattle.digits.specs.Decimal.{numberIn}
+use Rattle.addresses.specs.Addresses.{codeIn}
 use Rattle.envelope.specs.declared.application.Fields.{Fields}
 use Rattle.rules.specs.Opening.{Terms, rising}
 use Rattle.rules.specs.Receiving.{Reception, Error, Entry, returnedErrors}
@@ -38,6 +39,6 @@ afterErrors b found f e =
 abbrev pub Returns : declared.Terms → Fields → Found → Bool → List ℕ → ℕ → ℕ → Errors → Type 0
 Returns t f found taken m day second e =
     ((b : Book) (space : List ℕ)
-    → Stands b (numberIn (f .sender)) (numberIn (f .time)) found taken
+    → Stands b (codeIn (f .sender)) (numberIn (f .time)) found taken
     → (listed e, afterErrors b found f e) ≡ submitted (terms.viewed t (admissionOf b)) (viewed b) (receptionOf m day second space))
     × (e .n ≤ 16)

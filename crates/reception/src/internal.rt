@@ -18,7 +18,7 @@ ghost use Rattle.calendar.specs.Calendar.{validDate, validTime};
 ghost use Rattle.layout.specs.Fields.{readable};
 ghost use Rattle.output.specs.Output.{Wrote};
 ghost use Rattle.envelope.specs.Application.{layout6G1, fieldsOf};
-ghost use Rattle.rules.specs.Calls.{reply};
+ghost use Rattle.rules.specs.Calls.{replySpace, reply};
 ghost use Rattle.errors.specs.Listed.{listed};
 ghost use Rattle.reception.specs.Submission.{Returns};
 
@@ -46,7 +46,7 @@ pub fn returned_errors(
 // Writes the reply to a readable message, and gives its length.
 pub fn put_reply(space: &mut [u8], m: &[u8], t: Terms, time: u64, e: Errors) -> usize
     requires { ⌜ readable layout6G1 (now m) ≡ true ⌝ }
-    requires { ⌜ (e .n ≤ 16) × (418 ≤ length (now space)) ⌝ }
+    requires { ⌜ (e .n ≤ 16) × (replySpace ≤ length (now space)) ⌝ }
     ensures { λ r. ⌜ Wrote (now (space .entry)) 0 (reply (listed e) (t .identifier) (now (m .entry)) time) (now (space .exit)) r ⌝ }
 {
     if 0 < e.n {

@@ -15,7 +15,7 @@ use Rattle.envelope.specs.Application.{layout6G1}
 use Rattle.rules.specs.Allotment.{Bid, awards, sum}
 use Rattle.rules.specs.Opening.{Admission, Terms, any, openingRefused, termsOf}
 use Rattle.rules.specs.Receiving.{Reception, Error, when, errors, isEmpty, isSound, Submission, submission, Entry, newBook, isAfter, isFrom, takes, hold, returnedErrors}
-use Rattle.rules.specs.Calls.{Open, Closed, Tender, inState, openTender, isRevoked, isOver, clockInvalid, spaceShort, beforeCutOff, isOpen, isAnnounced, bidsInBook, bidsExceed, receivingRefused, answerWith, bookAfter, answerUnless, receive, closingRefused, close, allottingRefused, Allotted, allotment, allot}
+use Rattle.rules.specs.Calls.{Open, Closed, Tender, inState, openTender, isRevoked, isOver, clockInvalid, replySpace, spaceShort, beforeCutOff, isOpen, isAnnounced, bidsInBook, bidsExceed, receivingRefused, answerWith, bookAfter, answerUnless, receive, closingRefused, close, allottingRefused, Allotted, allotment, allot}
 use Rattle.rules.specs.ArrivalOrder.{receiveAll, EnoughSpace, NoConflict, Rearranged, PastCutOff, afterReceptions, afterClosing, finalBids, allFinalBids, finalBook, Settled, ArrivalOrder, AnyLatest}
 use Rattle.rules.proofs.Links.{allotment-sum}
 use Rattle.rules.proofs.Rearranging.{mem-map, map-mem, rearranged-mem, rearranged-back, rearranged-map}
@@ -82,14 +82,14 @@ module _ (t : Terms) (b : List Entry) (r : Reception) where
   answered true false e f p q = answer-tender (returnedErrors t b r) t b r ∙ rw (returned-empty t b r true false e f) (ap (openWith t) (sym (none-taken (submission t r) b f)))
   answered false y e f p q = answer-tender (returnedErrors t b r) t b r ∙ rw (returned-empty t b r false y e f) (not-sound (sound-is true true false p q e))
 
-  unless-refused : (x y : Bool) → readable layout6G1 (r .message) ≡ x → validDate (r .date) && validTime (r .time) ≡ y → 418 ≤ length (r .space)
+  unless-refused : (x y : Bool) → readable layout6G1 (r .message) ≡ x → validDate (r .date) && validTime (r .time) ≡ y → replySpace ≤ length (r .space)
       → receive (openWith t b) r .1 ≡ openWith t (map (hold (submission t r)) b)
   unfolding receive receivingRefused answerUnless firstHolding isRevoked isOver clockInvalid spaceShort
   unless-refused x false p q l = rw q (not-sound (sound-is x false (isEmpty (errors t r)) p q refl ∙ ap (λ (u : Bool). u && isEmpty (errors t r)) (and-false x)))
-  unless-refused false true p q l = rw (q, le-ltb (length (r .space)) 418 l, p) (not-sound (sound-is false true (isEmpty (errors t r)) p q refl))
-  unless-refused true true p q l = rw (q, le-ltb (length (r .space)) 418 l, p) (answered (isEmpty (errors t r)) (any (takes (submission t r)) b) refl refl p q)
+  unless-refused false true p q l = rw (q, le-ltb (length (r .space)) replySpace l, p) (not-sound (sound-is false true (isEmpty (errors t r)) p q refl))
+  unless-refused true true p q l = rw (q, le-ltb (length (r .space)) replySpace l, p) (answered (isEmpty (errors t r)) (any (takes (submission t r)) b) refl refl p q)
 
-  pub received-tender : 418 ≤ length (r .space) → receive (openWith t b) r .1 ≡ openWith t (map (hold (submission t r)) b)
+  pub received-tender : replySpace ≤ length (r .space) → receive (openWith t b) r .1 ≡ openWith t (map (hold (submission t r)) b)
   received-tender l = unless-refused (readable layout6G1 (r .message)) (validDate (r .date) && validTime (r .time)) refl refl l
 
 -- a list of receptions: the book holds their messages one after the other

@@ -10,16 +10,16 @@ use Rattle.calendar.specs.Calendar.{validDate, validTime, later}
 use Rattle.rules.specs.Allotment.{Bid, keep, awards, sum, totalIn}
 use Rattle.rules.specs.Opening.{Admission, Terms, openingRefused, termsOf, offerOf}
 use Rattle.rules.specs.Receiving.{Reception, Submission, submission, cancels, tenZeros, isFrom}
-use Rattle.rules.specs.Calls.{Tender, openTender, receive, close, allot, allotment}
+use Rattle.rules.specs.Calls.{Tender, replySpace, openTender, receive, close, allot, allotment}
 
 -- 'every list of receptions, refused ones included, .. each on the tender that the last one returned'
 unfoldable pub receiveAll : Tender → List Reception → Tender
 receiveAll t [] = t
 receiveAll t (r ∷ rs) = receiveAll (receive t r .1) rs
 
--- 'and with reply space of at least 418 bytes'
+-- 'and with reply space of at least 436 bytes'
 abbrev pub EnoughSpace : List Reception → Type 0
-EnoughSpace rs = (r : Reception) → List·Memᴰ r rs → 418 ≤ length (r .space)
+EnoughSpace rs = (r : Reception) → List·Memᴰ r rs → replySpace ≤ length (r .space)
 
 -- 'no two sound messages of one counterparty carry the same reference time with bids that differ at any place'
 abbrev pub NoConflict : Terms → List Reception → Type 0

@@ -50,9 +50,13 @@ isOver s = elim s [ Open ↦ false | Closed ↦ true | Announced ↦ true | Revo
 unfoldable pub clockInvalid : ℕ → ℕ → Bool
 clockInvalid date time = not (validDate date && validTime time)
 
--- '11. The reply space is under 418 bytes.'
+-- 'Reply space becomes 436 bytes': RE01 of the longest 6G1 with five errors
+abbrev pub replySpace : ℕ
+replySpace = 436
+
+-- '11. The reply space is under' so many bytes
 unfoldable pub spaceShort : List ℕ → Bool
-spaceShort space = ltb (length space) 418
+spaceShort space = ltb (length space) replySpace
 
 -- '13. The cut-off has not passed.'
 unfoldable pub beforeCutOff : Terms → ℕ → ℕ → Bool
@@ -96,7 +100,7 @@ pub data Answer : Type 0 where
 abbrev pub inSpace : List ℕ → List ℕ → List ℕ
 inSpace reply space = reply ++ drop (length reply) space
 
--- 'An accepted message gets a confirmation; one with errors gets RE01'
+-- 'An accepted message gets a confirmation; one with errors gets RE01'; 'A confirmation's 050 repeats the sender whole'
 unfoldable pub reply : List Error → List ℕ → List ℕ → ℕ → List ℕ
 reply [] identifier m time = confirmation (ascii "6G2") (bytesOf Sender m) (bytesOf Cro m) time identifier
 reply (e ∷ es) identifier m time = returnedMessage m (e ∷ es)

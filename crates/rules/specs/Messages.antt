@@ -5,6 +5,8 @@ use Prim.Native.Nat.{ℕ, zero, suc}
 use Prim.Native.String.{String}
 use lib.ListN.{replicate, set, take}
 use Rattle.layout.specs.Fields.{encoded}
+use Rattle.addresses.specs.declared.Address.{Address}
+use Rattle.addresses.specs.declared.Address.the-variants.{Code}
 use Rattle.places.specs.declared.Rate.{Rate}
 use Rattle.places.specs.declared.Amount.{Amount}
 use Rattle.texts.specs.Texts.{ascii}
@@ -15,6 +17,7 @@ use Rattle.announcement.specs.declared.Field.{Field as AnnouncementField}
 use Rattle.announcement.specs.Announcement.{layout6G0, position as announcementPosition}
 use Rattle.rules.specs.Opening.{Admission, admitting, Terms, termsOf}
 use Rattle.rules.specs.Receiving.{Reception}
+use Rattle.rules.specs.Calls.{replySpace}
 
 infix 68 _is_
 -- a name, and the text that a row gives it
@@ -106,10 +109,14 @@ firstAmount p = record { 0 = p .1 }
 unfoldable pub ten : Pairs → Pairs
 ten ps = take 10 (ps ++ replicate 10 (0, 0))
 
--- a 6G1 to this tender, from a code at a reference time
+-- a 6G1 to this tender, from an address to an address at a reference time
+unfoldable pub numbersBetween : Address → Address → ℕ → Pairs → Application
+numbersBetween from to time ps =
+    record { sender = from; recipient = to; cro = 1; date = 12032012; time = time; check = 0; rates = map firstRate (ten ps); amounts = map firstAmount (ten ps) }
+
+-- and from a code
 unfoldable pub numbers : ℕ → ℕ → Pairs → Application
-numbers code time ps =
-    record { sender = code; recipient = 1000; cro = 1; date = 12032012; time = time; check = 0; rates = map firstRate (ten ps); amounts = map firstAmount (ten ps) }
+numbers code time ps = numbersBetween (Code code) (Code 1000) time ps
 
 unfoldable pub message : ℕ → ℕ → Pairs → List ℕ
 message code time ps = written (numbers code time ps) (ascii "6G1") (ascii "T/2012/0001") (ascii "CONTACT NAME   ")
@@ -126,4 +133,4 @@ zeroPlaces (suc n) = ascii "00000000/000000000000000" ++ zeroPlaces n
 
 -- the reception of a message on the execution date
 unfoldable pub reception : ℕ → List ℕ → Reception
-reception time m = record { message = m; date = 12032012; time = time; space = replicate 418 0 }
+reception time m = record { message = m; date = 12032012; time = time; space = replicate replySpace 0 }

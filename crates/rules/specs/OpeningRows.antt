@@ -31,6 +31,9 @@ openingRows =
     ∷ row 1 (opening (announcement ++ (0 ∷ [])) admitted) (1 ∷ [])
     ∷ row 1 (opening (take 224 announcement) admitted) (1 ∷ [])
     ∷ row 1 (openingWith (Sender is "0100" ∷ []) []) (1 ∷ [])
+    -- the addresses of an announcement 'stay at 5'
+    ∷ row 1 (openingWith (Sender is "01000/00000/AA" ∷ []) []) (1 ∷ [])
+    ∷ row 1 (openingWith (Recipient is "90001/00000/AA" ∷ []) []) (1 ∷ [])
     ∷ row 1 (opening (message 90001 102900 []) admitted) (1 ∷ [])
     ∷ row 2 (openingWith (MessageType is "6G1" ∷ []) []) (2 ∷ [])
     ∷ row 2 (openingWith (Sender is "01001" ∷ []) []) (2 ∷ [])

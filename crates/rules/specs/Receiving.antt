@@ -4,12 +4,13 @@ use mathlib.Core.List.{List, [], _∷_, _++_, map}
 use mathlib.Core.Option.{Option, none, some}
 use Prim.Native.Nat.{ℕ, _-_, _%_}
 use lib.Dec.{eqb, leb, ltb}
-use lib.ListN.{length, replicate}
+use lib.ListN.{length, replicate, take}
 use Rattle.calendar.specs.Calendar.{validDate, validTime, later}
 use Rattle.digits.specs.declared.Digits.{Digits}
-use Rattle.digits.specs.declared.Digits.the-variants.{Number, None}
 use Rattle.digits.specs.Decimal.{isNumber, numberIn}
 use Rattle.layout.specs.Fields.{readable}
+use Rattle.addresses.specs.declared.Address.{Address}
+use Rattle.addresses.specs.Addresses.{isAddress, codeIn}
 use Rattle.places.specs.declared.Place.{Place}
 use Rattle.places.specs.Bids.{placesIn}
 use Rattle.texts.specs.Texts.{sameText, ascii}
@@ -43,10 +44,10 @@ Error = List ℕ × ℕ
 unfoldable pub when : Bool → Error → List Error
 when b e = cond b (e ∷ []) []
 
--- '040-309 sender not digits, else 040-300 not admitted'
-unfoldable pub senderErrors : List ℕ → Digits → List Error
-senderErrors codes None = (ascii "040", 309) ∷ []
-senderErrors codes (Number c) = when (not (any (eqb c) codes)) (ascii "040", 300)
+-- '040-309 sender not digits, else 040-300 not admitted'; '309 also covers a misplaced slash or a non-digit in the second five', and
+-- 'Admission looks at a sender's first five digits'
+unfoldable pub senderErrors : List ℕ → Address → List Error
+senderErrors codes a = cond (isAddress a) (when (not (any (eqb (codeIn a)) codes)) (ascii "040", 300)) ((ascii "040", 309) ∷ [])
 
 -- 'D31-502 not a date, else D31-522 not the execution date'
 unfoldable pub dateErrors : ℕ → Digits → List Error
@@ -87,12 +88,12 @@ bidErrors t bs =
 unfoldable pub placeErrors : Terms → List ℕ → List Error
 placeErrors t s = cond (any (λ (p : Place). not (p .formed)) (placesIn 10 s)) ((ascii "6G6", 901) ∷ []) (bidErrors t (bidsIn s))
 
--- 'The message's errors are collected in this order, each once, as IDC and code'
+-- 'The message's errors are collected in this order, each once, as IDC and code'; 'A long recipient is right when its first five are `01000`.'
 unfoldable pub errors : Terms → Reception → List Error
 errors t r =
     when (not (sameText (bytesOf MessageType (r .message)) (ascii "6G1"))) (ascii "001", 900)
     ++ senderErrors (t .admission .codes) (fieldsOf (r .message) .sender)
-    ++ when (not (sameText (bytesOf Recipient (r .message)) (ascii "01000"))) (ascii "050", 599)
+    ++ when (not (sameText (take 5 (bytesOf Recipient (r .message))) (ascii "01000"))) (ascii "050", 599)
     ++ when (not (isNumber (fieldsOf (r .message) .cro))) (ascii "020", 521)
     ++ dateErrors (t .execution) (fieldsOf (r .message) .date)
     ++ when (not (isTime (fieldsOf (r .message) .time))) (ascii "601", 503)
@@ -109,7 +110,8 @@ isEmpty (x ∷ xs) = false
 unfoldable pub isSound : Terms → Reception → Bool
 isSound t r = readable layout6G1 (r .message) && (validDate (r .date) && validTime (r .time)) && isEmpty (errors t r)
 
--- what announcement and admitted list tell of a reception: whether its message is sound, its sender, reference time and ten bids
+-- what announcement and admitted list tell of a reception: whether its message is sound, its sender's code, which all branches of a
+-- counterparty share, reference time and ten bids
 pub record Submission : Type 0 where
   pub sound : Bool
   pub code : ℕ
@@ -120,7 +122,7 @@ unfoldable pub submission : Terms → Reception → Submission
 submission t r =
     record {
       sound = isSound t r;
-      code = numberIn (fieldsOf (r .message) .sender);
+      code = codeIn (fieldsOf (r .message) .sender);
       time = numberIn (fieldsOf (r .message) .time);
       bids = messageBids (r .message);
     }

@@ -2,10 +2,13 @@
 use mathlib.Core.Bool.{cond}
 use mathlib.Core.List.{List, [], _∷_, _++_, map}
 use mathlib.Core.Option.{none}
-use Prim.Native.Nat.{ℕ}
+use Prim.Native.Nat.{ℕ, _+_}
+use Prim.Native.String.{String}
 use lib.Dec.{T, eqb}
-use lib.ListN.{length, drop, replicate, take}
+use lib.ListN.{length, drop, replicate, set, take}
 use Rattle.texts.specs.Texts.{ascii}
+use Rattle.addresses.specs.declared.Address.{Address}
+use Rattle.addresses.specs.declared.Address.the-variants.{Malformed, Code, Branch}
 use Rattle.envelope.specs.declared.application.Field.{Field}
 use Rattle.envelope.specs.declared.application.Field.the-variants.{MessageType, Sender, Recipient, Cro, Date, Time, Check, Identifier, Bids}
 use Rattle.envelope.specs.declared.application.Application.{Application}
@@ -13,9 +16,9 @@ use Rattle.envelope.specs.Application.{position, readingRefused, writingRefused
 use Rattle.rules.specs.Allotment.{total}
 use Rattle.rules.specs.Receiving.{Reception, Submission, submission, Entry, errors}
 use Rattle.rules.specs.Replies.{errorTexts}
-use Rattle.rules.specs.Calls.{State, Open, Closed, Announced, Revoked, Tender, inState, Answer, confirmed, returned, refused, openTender, receivingRefused, receive, closingRefused, close, allottingRefused, in640, allot, revokingRefused, revoke}
+use Rattle.rules.specs.Calls.{State, Open, Closed, Announced, Revoked, Tender, inState, Answer, confirmed, returned, refused, replySpace, openTender, receivingRefused, receive, closingRefused, close, allottingRefused, in640, allot, revokingRefused, revoke}
 use Rattle.rules.specs.Events.{Event, receiveEvent, closeEvent, allotEvent, revokeEvent, afterEvents}
-use Rattle.rules.specs.Messages.{_is_, Most, Maximum, announcementWith, announcement, admission, terms, Pairs, numbers, message, messageWith, zeroPlaces, reception}
+use Rattle.rules.specs.Messages.{_is_, Most, Maximum, announcementWith, announcement, admission, terms, Pairs, numbersBetween, numbers, message, messageWith, zeroPlaces, reception}
 use Rattle.rules.specs.Marked.{code, rate, amount, Row, row, allHold, listOf, tenderAfter}
 use Rattle.rules.specs.OpeningRows.{openingRows, openingOrderRows, literal6G0, termRows}
 
@@ -69,10 +72,12 @@ stateRows =
     ∷ row 9 (receiving (inState Announced opened) [] 0 0 0) (9 ∷ [])
     ∷ row 10 (receiving opened [] 31042012 103000 0) (10 ∷ [])
     ∷ row 10 (receiving opened [] 12032012 240000 0) (10 ∷ [])
-    ∷ row 11 (receiving opened [] 12032012 103000 417) (11 ∷ [])
-    ∷ row 12 (receiving opened [] 12032012 103000 418) (12 ∷ [])
-    ∷ row 12 (receiving opened announcement 12032012 103000 418) (12 ∷ [])
-    ∷ row 12 (receiving opened application 12032012 103000 418) []
+    ∷ row 11 (receiving opened [] 12032012 103000 435) (11 ∷ [])
+    ∷ row 11 (receiving opened application 12032012 103000 435) (11 ∷ [])
+    ∷ row 11 (receiving opened application 12032012 103000 436) []
+    ∷ row 12 (receiving opened [] 12032012 103000 replySpace) (12 ∷ [])
+    ∷ row 12 (receiving opened announcement 12032012 103000 replySpace) (12 ∷ [])
+    ∷ row 12 (receiving opened application 12032012 103000 replySpace) []
     ∷ row 8 (closing (inState Revoked opened) 0 0) (8 ∷ [])
     ∷ row 9 (closing (inState Closed opened) 0 0) (9 ∷ [])
     ∷ row 9 (closing (inState Announced opened) 0 0) (9 ∷ [])
@@ -138,12 +143,12 @@ bytesInReply (confirmed n) = n
 bytesInReply (returned es n) = n
 bytesInReply (refused n) = 0
 
--- the text of the second 098 in the reply to a message: 339 bytes of the message, 27 of the first 098 and 3 of its own head stand before it;
+-- the text of the second 098 in the reply to a message: the message, 27 bytes of the first 098 and 3 of its own head stand before it;
 -- a confirmation has none
 unfoldable pub second098 : ℕ → Tender → List ℕ → List ℕ
 second098 time t m =
     let a : Answer × Tender × List ℕ = receive t (reception time m) in
-    drop 369 (take (bytesInReply (a .0)) (a .2))
+    drop (length m + 30) (take (bytesInReply (a .0)) (a .2))
 
 abbrev pub second098With : List (Field × List ℕ) → List ℕ
 second098With fields = second098 103000 opened (applicationWith fields)
@@ -239,18 +244,18 @@ replyRows =
     row 59 (answer (receive opened (reception 103000 application) .0)) (0 ∷ 59 ∷ [])
     ∷ row 59 (receive opened (reception 103000 application) .2)
     ((1 ∷ 0 ∷ 3 ∷ []) ++ ascii "6G2" ++ (4 ∷ 0 ∷ 5 ∷ []) ++ ascii "01000" ++ (5 ∷ 0 ∷ 5 ∷ []) ++ ascii "90001" ++ (0x22 ∷ 0 ∷ 11 ∷ []) ++ ascii "00000000001"
-    ++ (0x60 ∷ 0 ∷ 6 ∷ []) ++ ascii "103000" ++ (0x70 ∷ 0 ∷ 11 ∷ []) ++ ascii "T/2012/0001" ++ replicate 359 0)
+    ++ (0x60 ∷ 0 ∷ 6 ∷ []) ++ ascii "103000" ++ (0x70 ∷ 0 ∷ 11 ∷ []) ++ ascii "T/2012/0001" ++ replicate 377 0)
     -- one error: 339 and 27 and 12 bytes
     ∷ row 98 (answer (receive opened (reception 103000 (applicationWith (MessageType is "6G2" ∷ []))) .0)) (1 ∷ 378 ∷ 900 ∷ [])
     ∷ row 98 (receive opened (reception 103000 (applicationWith (MessageType is "6G2" ∷ []))) .2)
-    (applicationWith (MessageType is "6G2" ∷ []) ++ returnedWith 9 ++ ascii "001 - 900" ++ replicate 40 0)
+    (applicationWith (MessageType is "6G2" ∷ []) ++ returnedWith 9 ++ ascii "001 - 900" ++ replicate 58 0)
     -- five errors: all five; six: the fifth is 999 - 999
-    ∷ row 98 (receive opened (reception 103000 fiveErrors) .2) (fiveErrors ++ returnedWith 49 ++ ascii "001 - 900/050 - 599/020 - 521/010 - 908/6G0 - 303")
+    ∷ row 98 (receive opened (reception 103000 fiveErrors) .2) (fiveErrors ++ returnedWith 49 ++ ascii "001 - 900/050 - 599/020 - 521/010 - 908/6G0 - 303" ++ replicate 18 0)
     ∷ row 999 (answer (receive opened (reception 103000 sixErrors) .0)) (1 ∷ 418 ∷ 900 ∷ 599 ∷ 521 ∷ 908 ∷ 303 ∷ 901 ∷ [])
-    ∷ row 999 (receive opened (reception 103000 sixErrors) .2) (sixErrors ++ returnedWith 49 ++ ascii "001 - 900/050 - 599/020 - 521/010 - 908/999 - 999")
+    ∷ row 999 (receive opened (reception 103000 sixErrors) .2) (sixErrors ++ returnedWith 49 ++ ascii "001 - 900/050 - 599/020 - 521/010 - 908/999 - 999" ++ replicate 18 0)
     -- a refused reception leaves the space
     ∷ row 12 (answer (receive opened (reception 103000 []) .0)) (2 ∷ 12 ∷ [])
-    ∷ row 12 (receive opened (reception 103000 []) .2) (replicate 418 0)
+    ∷ row 12 (receive opened (reception 103000 []) .2) (replicate replySpace 0)
     ∷ []
 
 -- an application byte by byte, each tag and length a number
@@ -293,8 +298,8 @@ numbersWith f n =
     let a : Application = numbers 90001 102900 ((120000, 10000) ∷ []) in
     let given : Field → ℕ → ℕ = λ g m. cond (eqb (position f) (position g)) n m in
     record {
-      sender = given Sender (a .sender);
-      recipient = given Recipient (a .recipient);
+      sender = Code (given Sender 90001);
+      recipient = Code (given Recipient 1000);
       cro = given Cro (a .cro);
       date = given Date (a .date);
       time = given Time (a .time);
@@ -335,6 +340,91 @@ writingRows =
     ∷ row 339 (afterWriting (numbersWith Sender 90001) 341) (literal6G1 ++ (7 ∷ 7 ∷ []))
     ∷ []
 
+-- an application between branches of the sender and of the recipient, byte by byte, and the same by the layout
+unfoldable pub literalBetween : List ℕ
+literalBetween =
+    take 6 literal6G1
+    ++ (0x04 ∷ 0 ∷ 14 ∷ []) ++ ascii "90001/00117/AB"
+    ++ (0x05 ∷ 0 ∷ 14 ∷ []) ++ ascii "01000/00002/C "
+    ++ drop 22 literal6G1
+
+abbrev pub longSender : Field × List ℕ
+longSender = Sender is "90001/00117/AB"
+
+abbrev pub longRecipient : Field × List ℕ
+longRecipient = Recipient is "01000/00002/C "
+
+-- its numbers and letters
+abbrev pub senderBranch : Address
+senderBranch = Branch 90001 117 65 66
+
+abbrev pub recipientBranch : Address
+recipientBranch = Branch 1000 2 67 32
+
+abbrev pub between : Address → Address → Application
+between from to = numbersBetween from to 102900 ((120000, 10000) ∷ [])
+
+-- what an application with some texts altered is answered
+abbrev pub answerGiven : Tender → List (Field × List ℕ) → List ℕ
+answerGiven t fields = answer (receive t (reception 103100 (applicationWith fields)) .0)
+
+-- the tender after an application of the same reference time from a sender
+abbrev pub afterSender : String → Tender
+afterSender sender = tenderAfter (reception 103000 (applicationWith (Sender is sender ∷ [])) ∷ [])
+
+unfoldable pub addressRows : List Row
+addressRows =
+    -- a long sender: digits and slashes in place, any two characters after them
+    row 309 (answerGiven opened (Sender is "90001/00117/ /" ∷ [])) (0 ∷ 68 ∷ [])
+    ∷ row 309 (second098With (Sender is "9000A/00117/AB" ∷ [])) (ascii "040 - 309")
+    ∷ row 309 (second098With (Sender is "90001/0011:/AB" ∷ [])) (ascii "040 - 309")
+    ∷ row 309 (second098With (Sender is "90001-00117/AB" ∷ [])) (ascii "040 - 309")
+    ∷ row 309 (second098With (Sender is "90001/00117-AB" ∷ [])) (ascii "040 - 309")
+    -- its code is not admitted, though its second five are a code that is; 309 hides 300
+    ∷ row 300 (second098With (Sender is "90004/90001/AB" ∷ [])) (ascii "040 - 300")
+    ∷ row 309 (second098With (Sender is "90004/9000A/AB" ∷ [])) (ascii "040 - 309")
+    -- of a long recipient the first five tell, whatever follows
+    ∷ row 599 (answerGiven opened (longRecipient ∷ [])) (0 ∷ 59 ∷ [])
+    ∷ row 599 (answerGiven opened (Recipient is "01000xxxxxxxxx" ∷ [])) (0 ∷ 59 ∷ [])
+    ∷ row 599 (second098With (Recipient is "01001/00000/AA" ∷ [])) (ascii "050 - 599")
+    -- branches of one code are one counterparty
+    ∷ row 302 (answerGiven (afterSender "90001/00117/AB") (Sender is "90001/00118/CD" ∷ [])) (1 ∷ 387 ∷ 302 ∷ [])
+    ∷ row 302 (answerGiven (afterSender "90001") (Sender is "90001/00117/AB" ∷ [])) (1 ∷ 387 ∷ 302 ∷ [])
+    ∷ row 302 (answerGiven (afterSender "90001/00117/AB") (Sender is "90001" ∷ [])) (1 ∷ 378 ∷ 302 ∷ [])
+    ∷ row 302 (answerGiven (afterSender "90001/00117/AB") (Sender is "90002/00117/AB" ∷ [])) (0 ∷ 68 ∷ [])
+    -- a confirmation of 68 bytes: 050 is the sender whole, 040 stays short
+    ∷ row 357 (answer (receive opened (reception 103000 literalBetween) .0)) (0 ∷ 68 ∷ [])
+    ∷ row 357 (receive opened (reception 103000 literalBetween) .2)
+    ((1 ∷ 0 ∷ 3 ∷ []) ++ ascii "6G2" ++ (4 ∷ 0 ∷ 5 ∷ []) ++ ascii "01000" ++ (5 ∷ 0 ∷ 14 ∷ []) ++ ascii "90001/00117/AB" ++ (0x22 ∷ 0 ∷ 11 ∷ []) ++ ascii "00000000001"
+    ++ (0x60 ∷ 0 ∷ 6 ∷ []) ++ ascii "103000" ++ (0x70 ∷ 0 ∷ 11 ∷ []) ++ ascii "T/2012/0001" ++ replicate 368 0)
+    ∷ row 357 (submittedNumbers (submission terms (reception 103000 literalBetween))) (90001 ∷ 102900 ∷ 120000 ∷ replicate 9 0 ++ (10000 ∷ replicate 9 0))
+    -- the longest reply: 357 and 27 and 52 bytes
+    ∷ row 357 (answerGiven opened (malformedPlace ∷ fiveTexts ++ (longSender ∷ Recipient is "11000/00002/C " ∷ []))) (1 ∷ 436 ∷ 900 ∷ 599 ∷ 521 ∷ 908 ∷ 303 ∷ 901 ∷ [])
+    -- a head that says another length than the field has
+    ∷ row 12 (receiving opened (set (applicationWith (longSender ∷ [])) 8 5) 12032012 103000 replySpace) (12 ∷ [])
+    ∷ row 12 (receiving opened (set application 8 14) 12032012 103000 replySpace) (12 ∷ [])
+    ∷ row 12 (receiving opened (set application 16 14) 12032012 103000 replySpace) (12 ∷ [])
+    ∷ []
+
+-- writing: each address by itself of either form
+unfoldable pub addressWritingRows : List Row
+addressWritingRows =
+    row 357 literalBetween (applicationWith (longSender ∷ longRecipient ∷ []))
+    ∷ row 357 (afterWriting (between senderBranch recipientBranch) 359) (literalBetween ++ (7 ∷ 7 ∷ []))
+    ∷ row 17 (writing (between (Branch 90001 100000 65 66) recipientBranch) 357) (17 ∷ [])
+    ∷ row 17 (writing (between (Branch 100000 117 65 66) recipientBranch) 357) (17 ∷ [])
+    ∷ row 17 (writing (between senderBranch (Branch 1000 100000 67 32)) 356) (17 ∷ [])
+    ∷ row 17 (writing (between Malformed recipientBranch) 357) (17 ∷ [])
+    ∷ row 18 (writing (between senderBranch recipientBranch) 356) (18 ∷ [])
+    ∷ row 18 (writing (between senderBranch recipientBranch) 357) []
+    ∷ row 18 (writing (between senderBranch (Code 1000)) 347) (18 ∷ [])
+    ∷ row 18 (writing (between senderBranch (Code 1000)) 348) []
+    ∷ row 18 (writing (between (Code 90001) recipientBranch) 347) (18 ∷ [])
+    ∷ row 18 (writing (between (Code 90001) recipientBranch) 348) []
+    ∷ row 18 (writing (between (Code 90001) (Code 1000)) 338) (18 ∷ [])
+    ∷ row 18 (writing (between (Code 90001) (Code 1000)) 339) []
+    ∷ []
+
 -- the theorem: every row holds
 abbrev pub RowsHold : Type 0
-RowsHold = T (allHold (openingRows ++ openingOrderRows ++ termRows ++ stateRows ++ eventRows ++ errorRows ++ errorOrderRows ++ replyRows ++ literalRows ++ writingRows))
+RowsHold = T (allHold (openingRows ++ openingOrderRows ++ termRows ++ stateRows ++ eventRows ++ errorRows ++ errorOrderRows ++ replyRows ++ literalRows ++ writingRows ++ addressRows ++ addressWritingRows))

@@ -18,14 +18,14 @@ use Rattle.outcomes.specs.Answers.{answerIn}
 use Rattle.outcomes.specs.Outcomes.{leftBy, Left, ComesTo}
 
 -- the reception of a field, with the message that follows its clock
-pub reception-is : (s m : List ℕ) (date time : ℕ) → m ≡ drop 14 s → date ≡ dateOf s → time ≡ timeOf s → checks.receptionOf m date time (replicate 418 0) ≡ receptionIn s
+pub reception-is : (s m : List ℕ) (date time : ℕ) → m ≡ drop 14 s → date ≡ dateOf s → time ≡ timeOf s → checks.receptionOf m date time (replicate rules.replySpace 0) ≡ receptionIn s
 unfolding receptionIn
-reception-is s m date time p q h = λ i. record { message = p i; date = q i; time = h i; space = replicate 418 0 }
+reception-is s m date time p q h = λ i. record { message = p i; date = q i; time = h i; space = replicate rules.replySpace 0 }
 
 pub message-is : (s : List ℕ) → take (length s - 14) (drop 14 s) ≡ drop 14 s
 message-is s = take-all (length s - 14) (drop 14 s) (omega (arith, length-drop 14 s))
 
-module _ (t : rules.Tender) (s m : List ℕ) (date time : ℕ) (o : Outcome) (c : ComesTo t m date time 418 o)
+module _ (t : rules.Tender) (s m : List ℕ) (date time : ℕ) (o : Outcome) (c : ComesTo t m date time rules.replySpace o)
     (p : m ≡ drop 14 s) (q : date ≡ dateOf s) (h : time ≡ timeOf s) where
   abbrev x : Reception
   x = receptionIn s
@@ -38,10 +38,10 @@ module _ (t : rules.Tender) (s m : List ℕ) (date time : ℕ) (o : Outcome) (c 
   told = length (reply errors (t .terms .identifier) (x .message) (x .time))
 
   number : refusalNumber (o .refusal) ≡ receivingRefused (t) x
-  number = c .number (replicate 418 0) refl ∙ ap (receivingRefused (t)) (reception-is s m date time p q h)
+  number = c .number (replicate rules.replySpace 0) refl ∙ ap (receivingRefused (t)) (reception-is s m date time p q h)
 
   left : refusalNumber (o .refusal) ≡ none → Left t x o
-  left e = subst (λ (y : Reception). Left t y o) (reception-is s m date time p q h) (c .left e (replicate 418 0))
+  left e = subst (λ (y : Reception). Left t y o) (reception-is s m date time p q h) (c .left e (replicate rules.replySpace 0))
 
   by-number : (l : Option ℕ) → refusalNumber (o .refusal) ≡ l
       → (answerUnless l (t) x .0 ≡ answerIn l (listed (o .errors)) told) × (answerUnless l (t) x .1 ≡ leftBy (t) o)

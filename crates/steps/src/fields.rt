@@ -122,7 +122,7 @@ pub fn reception(standing: Standing, words: &mut [u64], s: &[u8], space: &mut [u
         };
     }
     let m = &s[14..s.len()];
-    let outcome = outcome_in(words, m, date_of(s), time_of(s), 418);
+    let outcome = outcome_in(words, m, date_of(s), time_of(s), 436);
     let refusal = outcome.refusal;
     let errors = outcome.errors;
     let length = put_answer(space, s, m, refusal, errors);

@@ -1,4 +1,5 @@
 // The calls on a tender: each takes it by value and gives back the next one with the answer.
+use addresses::code_of;
 use book::Book;
 use book::amounts_of;
 use book::cents_of;
@@ -133,7 +134,7 @@ fn outcome_of(t: Tender, m: &[u8], date: u64, time: u64, room: usize) -> Outcome
     let codes = book.codes;
     let held = book.held;
     let has = book.has;
-    let found = find_in(&codes, book.n, digits::number_of(sender));
+    let found = find_in(&codes, book.n, code_of(sender));
     let sent = digits::number_of(reference);
     let taken = takes_at(&held, &has, found, sent);
     judged(terms, found, taken, m, fields, date, time)

@@ -43,14 +43,14 @@ has-long c = search (needs, length-mapped)
 slice-aggregate-find-in : tie.Need-slice-aggregate-find-in
 slice-aggregate-find-in c = sym (codes-long (c .before .before .before .before .before .before .before .before .before .before .before))
 
-number-of-requires : tie.Need-number-of-requires
-number-of-requires c κs = search needs
+code-of-requires : tie.Need-code-of-requires
+code-of-requires c κs = search needs
 
 find-in-requires : tie.Need-find-in-requires
 find-in-requires c κs = codes-long (c .before .before .before .before .before .before .before .before .before .before .before .before)
 
-number-of-requires-2 : tie.Need-number-of-requires-2
-number-of-requires-2 c κs = search needs
+number-of-requires : tie.Need-number-of-requires
+number-of-requires c κs = search needs
 
 slice-aggregate-takes-at : tie.Need-slice-aggregate-takes-at
 slice-aggregate-takes-at c = sym (held-long (c .before .before .before .before .before .before .before .before .before .before .before .before .before .before .before))
@@ -62,7 +62,7 @@ takes-at-requires : tie.Need-takes-at-requires
 takes-at-requires c κs =
     let f = c .before .before .before in
     let start = f .before .before .before .before .before .before .before .before .before .before .before .before .before in
-    (held-long start, has-long start, index-below (start .args .t .book) (f .before .number-of .result) (f .find-in .result) (f .find-in .ensures (start .args .t .book) refl refl))
+    (held-long start, has-long start, index-below (start .args .t .book) (f .before .code-of .result) (f .find-in .result) (f .find-in .ensures (start .args .t .book) refl refl))
 
 -- no condition refuses the reception
 unrefused : (c : tie.Else1) → refusalNumber (c .before .before .receiving-checks .result .refusal) ≡ none
@@ -83,8 +83,8 @@ returns-2 c =
     let start = k .before .before .before .before in
     let a = start .args in
     let b = a .t .book in
-    let found = f .find-in .ensures b refl refl ∙ ap (λ (code : ℕ). findFrom (viewed b) code 0) (f .before .number-of .ensures) in
-    let taken = t .takes-at .ensures b refl refl ∙ ap (takenAt b (f .find-in .result)) (t .before .before .before .number-of2 .ensures) in
+    let found = f .find-in .ensures b refl refl ∙ ap (λ (code : ℕ). findFrom (viewed b) code 0) (f .before .code-of .ensures) in
+    let taken = t .takes-at .ensures b refl refl ∙ ap (takenAt b (f .find-in .result)) (t .before .before .before .number-of .ensures) in
     comes-judged (a .t .state) (a .t .terms) b (now (a .m)) (a .date) (a .time) (a .room) (k .receiving-checks .result) (k .receiving-checks .ensures) (c .judged .result) (unrefused l) (f .find-in .result) (t .takes-at .result) (record { rises = start .pre .rises; found-is = found; taken-is = taken }) (c .judged .ensures)
 
 pub outcome-of-spec : {M : Type 1} → statement M
@@ -96,9 +96,9 @@ outcome-of-spec =
     refused-with-requires
     returns
     slice-aggregate-find-in
-    number-of-requires
+    code-of-requires
     find-in-requires
-    number-of-requires-2
+    number-of-requires
     slice-aggregate-takes-at
     slice-aggregate-takes-at-2
     takes-at-requires

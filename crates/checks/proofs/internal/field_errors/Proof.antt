@@ -7,9 +7,11 @@ use Prim.Native.Nat.{ℕ}
 use native.Mathlib.Omega.{arith}
 use denote.Ref.{now}
 use lib.Dec.{eqb}
+use lib.ListN.{take}
 use Rattle.texts.specs.Texts.{ascii, sameText}
 use Rattle.layout.specs.Fields.{oneOf}
-use Rattle.digits.specs.Decimal.{isNumber, numberIn}
+use Rattle.digits.specs.Decimal.{isNumber}
+use Rattle.addresses.specs.Addresses.{codeIn}
 use Rattle.envelope.specs.declared.application.Field.the-variants.{MessageType, Recipient, Identifier}
 use Rattle.envelope.specs.Application.{bytesOf}
 use Rattle.rules.specs.Opening.{any, isTime}
@@ -97,13 +99,13 @@ returns c =
     let l8 = listed (c .with6 .result) in
     let h1 : l1 ≡ when (not (sameText (bytesOf MessageType m) (ascii "6G1"))) (ascii "001", 900)
     = tested [] l1 _ _ _ (c .before .before .before .before .before .before .before .before .before .before .before .before .before .other-type .ensures) (c .before .before .before .before .before .before .before .before .before .before .before .before .with .ensures .0 ∙ ap (λ (l : List Error). l ++ when (c .before .before .before .before .before .before .before .before .before .before .before .before .before .other-type .result) (ascii "001", 900)) (c .before .before .before .before .before .before .before .before .before .before .before .before .before .before .none .ensures .0)) in
-    let h3 : l3 ≡ l2 ++ when (not (sameText (bytesOf Recipient m) (ascii "01000"))) (ascii "050", 599) = tested l2 l3 _ _ _ (c .before .before .before .before .before .before .before .before .before .before .other-recipient .ensures) (c .before .before .before .before .before .before .before .before .before .with2 .ensures .0) in
+    let h3 : l3 ≡ l2 ++ when (not (sameText (take 5 (bytesOf Recipient m)) (ascii "01000"))) (ascii "050", 599) = tested l2 l3 _ _ _ (c .before .before .before .before .before .before .before .before .before .before .other-recipient .ensures) (c .before .before .before .before .before .before .before .before .before .with2 .ensures .0) in
     let h4 : l4 ≡ l3 ++ when (not (isNumber (a .f .cro))) (ascii "020", 521) = tested l3 l4 _ _ _ (ap not (c .before .before .before .before .before .before .before .before .has-number .ensures)) (c .before .before .before .before .before .before .before .with3 .ensures .0) in
     let h5 = c .before .before .before .before .before .before .date-errors .ensures .0 in
     let h6 : l6 ≡ l5 ++ when (not (isTime (a .f .time))) (ascii "601", 503) = tested l5 l6 _ _ _ (ap not (c .before .before .before .before .before .is-time .ensures)) (c .before .before .before .before .with4 .ensures .0) in
     let h7 : l7 ≡ l6 ++ when (not (isNumber (a .f .check))) (ascii "010", 908) = tested l6 l7 _ _ _ (ap not (c .before .before .before .has-number2 .ensures)) (c .before .before .with5 .ensures .0) in
     let h8 : l8 ≡ l7 ++ when (not (sameText (bytesOf Identifier m) (a .t .identifier))) (ascii "6G0", 303) = tested l7 l8 _ _ _ (c .before .other-identifier .ensures) (c .with6 .ensures .0) in
-    let upTo2 : (codes : List ℕ) → a .admitted ≡ any (eqb (numberIn (a .f .sender))) codes → l2 ≡ when (not (sameText (bytesOf MessageType m) (ascii "6G1"))) (ascii "001", 900) ++ senderErrors codes (a .f .sender)
+    let upTo2 : (codes : List ℕ) → a .admitted ≡ any (eqb (codeIn (a .f .sender))) codes → l2 ≡ when (not (sameText (bytesOf MessageType m) (ascii "6G1"))) (ascii "001", 900) ++ senderErrors codes (a .f .sender)
     = λ codes k. added [] l1 l2 _ _ h1 (c .before .before .before .before .before .before .before .before .before .before .before .sender-errors .ensures .0 codes k) in
     let n0 = c .with6 .ensures .1 in
     let n1 = c .before .before .with5 .ensures .1 in

@@ -7,7 +7,7 @@ use Prim.Native.Nat.{ℕ, _≤_}
 use native.Mathlib.Omega.{arith}
 use denote.Ref.{now}
 use lib.ListN.{length, getD}
-use Rattle.digits.specs.Decimal.{numberIn}
+use Rattle.addresses.specs.Addresses.{codeIn}
 use Rattle.envelope.specs.declared.application.Fields.{Fields}
 use Rattle.book.specs.Viewed.{viewed, findFrom, takenAt}
 use Rattle.book.proofs.Joining.{index-below}
@@ -61,20 +61,20 @@ returns c =
       accepts = λ q. absurd (false≢true (sym (ap isSome q) ∙ ap (λ (r : Refusal). isSome (refusalNumber r)) (e .0) ∙ refused));
     }
 
-number-of-requires : tie.Need-number-of-requires
-number-of-requires c κs = search needs
+code-of-requires : tie.Need-code-of-requires
+code-of-requires c κs = search needs
 
 find-requires : tie.Need-find-requires
 find-requires c κs = search needs
 
-number-of-requires-2 : tie.Need-number-of-requires-2
-number-of-requires-2 c κs = search needs
+number-of-requires : tie.Need-number-of-requires
+number-of-requires c κs = search needs
 
 takes-requires : tie.Need-takes-requires
 takes-requires c κs =
     let f = c .before in
     let start = f .before .before .before .before .before .before .before .before .before .before in
-    (long start, index-below (bookIn (now (start .args .words))) (f .before .number-of .result) (f .find .result) (f .find .ensures))
+    (long start, index-below (bookIn (now (start .args .words))) (f .before .code-of .result) (f .find .result) (f .find .ensures))
 
 terms-in-requires : tie.Need-terms-in-requires
 terms-in-requires c κs = long (c .before .before .before .before .before .before .before .before .before .before .before .before)
@@ -99,15 +99,15 @@ returns-2 c =
     let a = start .args in
     let ws = now (a .words) in
     let q = unrefused l in
-    let found = f .find .ensures ∙ ap (λ (code : ℕ). findFrom (viewed (bookIn ws)) code 0) (f .before .number-of .ensures) in
-    let taken = t .takes .ensures ∙ ap (takenAt (bookIn ws) (f .find .result)) (t .before .number-of2 .ensures) in
+    let found = f .find .ensures ∙ ap (λ (code : ℕ). findFrom (viewed (bookIn ws)) code 0) (f .before .code-of .ensures) in
+    let taken = t .takes .ensures ∙ ap (takenAt (bookIn ws) (f .find .result)) (t .before .number-of .ensures) in
     let r = k .receiving-checks .result in
     let left = subst (λ (x : Terms). LeavesInAny x (f .find .result) (t .takes .result) (now (a .m)) (r .fields) (a .date) (a .time) (c .judged .result)) (c .before .terms-in .ensures) (c .judged .ensures) in
     let fields = checks k .fields-are q in
     record {
       comes = comes-judged (stateIn (getD ws 1 0)) (termsIn ws) (bookIn ws) (now (a .m)) (a .date) (a .time) (a .room) r (checks k) (c .judged .result) q (f .find .result) (t .takes .result)
           (record { rises = codes-rise ws (known ws (start .pre)); found-is = found; taken-is = taken }) left;
-      accepts = λ p. left .2 ∙ ap₂ acceptedOf (found ∙ ap (λ (x : Fields). findFrom (viewed (bookIn ws)) (numberIn (x .sender)) 0) fields) fields;
+      accepts = λ p. left .2 ∙ ap₂ acceptedOf (found ∙ ap (λ (x : Fields). findFrom (viewed (bookIn ws)) (codeIn (x .sender)) 0) fields) fields;
     }
 
 pub outcome-in-spec : {M : Type 1} → statement M
@@ -120,9 +120,9 @@ outcome-in-spec =
     is-refused-requires
     refused-with-requires
     returns
-    number-of-requires
+    code-of-requires
     find-requires
-    number-of-requires-2
+    number-of-requires
     takes-requires
     terms-in-requires
     judged-requires

@@ -9,8 +9,8 @@ use Rattle.texts.specs.Texts.{ascii}
 use Rattle.lines.proofs.internal.put_sender.Statement.{statement}
 use Rattle.lines.proofs.internal.put_sender.Tie as tie
 
-sender-in-requires : tie.Need-sender-in-requires
-sender-in-requires c κs = search needs
+sender-code-requires : tie.Need-sender-code-requires
+sender-code-requires c κs = search needs
 
 put-byte-requires : tie.Need-put-byte-requires
 put-byte-requires c κs = search needs
@@ -26,8 +26,8 @@ returns c =
     let text = c .before .before in
     let start = text .before .before .before .before in
     let sender = start .before .before in
-    (said (ap (λ (x : List ℕ). ascii " " ++ x) (sender .sender-in .ensures .0)) (then (omega arith) (start .put-byte .ensures) (text .put .ensures)), search needs)
+    (said (ap (λ (x : List ℕ). ascii " " ++ x) (sender .sender-code .ensures .0)) (then (omega arith) (start .put-byte .ensures) (text .put .ensures)), search needs)
 
 pub put-sender-spec : {M : Type 1} → statement M
 put-sender-spec =
-    tie.close (tie.spec sender-in-requires put-byte-requires put-requires same-length returns)
+    tie.close (tie.spec sender-code-requires put-byte-requires put-requires same-length returns)

@@ -6,7 +6,7 @@ use mathlib.Core.List.{[], _∷_}
 use lib.Dec.{ltb}
 use borrow.Author.Tests.{lt-ltb, le-ltb}
 use Rattle.envelope.specs.Refusals.{firstHolding}
-use Rattle.rules.specs.Calls.{isRevoked, isOver, clockInvalid}
+use Rattle.rules.specs.Calls.{isRevoked, isOver, clockInvalid, replySpace}
 use Rattle.refusals.specs.Conditions.{stateOf, refusalNumber}
 use Rattle.refusals.proofs.Conditions.{refused-first, refused-later}
 use Rattle.outcomes.specs.Outcomes.{notReceiving}
@@ -24,15 +24,15 @@ returns c =
     let n = c .before .before in
     let a = n .before .args in
     let s = stateOf (a .state) in
-    sym (refused-first ((8, isRevoked s) ∷ (9, isOver s) ∷ (10, clockInvalid (a .date) (a .time)) ∷ []) ((11, ltb (a .room) 418) ∷ []) (refusalNumber (n .not-open .result)) (n .not-open .ensures) (sym (c .before .is-refused .ensures) ∙ c .if1 .taken))
+    sym (refused-first ((8, isRevoked s) ∷ (9, isOver s) ∷ (10, clockInvalid (a .date) (a .time)) ∷ []) ((11, ltb (a .room) replySpace) ∷ []) (refusalNumber (n .not-open .result)) (n .not-open .ensures) (sym (c .before .is-refused .ensures) ∙ c .if1 .taken))
 
 -- the room is left to ask
-room-asked : (c : tie.Else1) → (let a = c .before .before .before .args in notReceiving (stateOf (a .state)) (a .date) (a .time) (a .room) ≡ firstHolding ((11, ltb (a .room) 418) ∷ []))
+room-asked : (c : tie.Else1) → (let a = c .before .before .before .args in notReceiving (stateOf (a .state)) (a .date) (a .time) (a .room) ≡ firstHolding ((11, ltb (a .room) replySpace) ∷ []))
 room-asked c =
     let n = c .before .before in
     let a = n .before .args in
     let s = stateOf (a .state) in
-    refused-later ((8, isRevoked s) ∷ (9, isOver s) ∷ (10, clockInvalid (a .date) (a .time)) ∷ []) ((11, ltb (a .room) 418) ∷ []) (refusalNumber (n .not-open .result)) (n .not-open .ensures) (sym (c .before .is-refused .ensures) ∙ c .if1 .left)
+    refused-later ((8, isRevoked s) ∷ (9, isOver s) ∷ (10, clockInvalid (a .date) (a .time)) ∷ []) ((11, ltb (a .room) replySpace) ∷ []) (refusalNumber (n .not-open .result)) (n .not-open .ensures) (sym (c .before .is-refused .ensures) ∙ c .if1 .left)
 
 returns-2 : tie.Need-returns-2
 unfolding firstHolding

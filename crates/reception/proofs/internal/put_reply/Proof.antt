@@ -9,7 +9,7 @@ use denote.Ref.{now}
 use Rattle.output.specs.Output.{Wrote}
 use Rattle.output.proofs.Output.{said}
 use Rattle.texts.specs.Texts.{ascii}
-use Rattle.envelope.proofs.Promise.{message-length}
+use Rattle.envelope.proofs.Promise.{longest-message, sender-length}
 use Rattle.rules.specs.Receiving.{Error}
 use Rattle.rules.specs.Replies.{confirmation}
 use Rattle.rules.specs.Calls.{reply}
@@ -21,7 +21,7 @@ use Rattle.reception.proofs.internal.put_reply.Tie as tie
 put-returned-requires : tie.Need-put-returned-requires
 put-returned-requires c κs =
     let start = c .before .before .before .before .before in
-    let l = message-length (now (start .args .m)) (start .pre .0) in
+    let l = longest-message (now (start .args .m)) (start .pre .0) in
     (omega (arith, c .before .if1 .taken), start .pre .1 .0, omega (arith, l, start .pre .1 .1))
 
 same-length : tie.Need-same-length
@@ -55,7 +55,10 @@ eleven c = search needs
 put-confirmation-requires : tie.Need-put-confirmation-requires
 put-confirmation-requires c κs =
     let start = c .before .before .before .before .before .before .before .before .before .before in
-    omega (arith, c .before .before .bytes-in .ensures .1, c .before .bytes-in2 .ensures .1, eleven start, start .pre .1 .1)
+    let m = now (start .args .m) in
+    let sender = ap length (c .before .before .bytes-in .ensures .0) in
+    let within = sender-length m (start .pre .0) .1 in
+    omega (arith, sender, within, c .before .bytes-in2 .ensures .1, eleven start, start .pre .1 .1)
 
 same-length-2 : tie.Need-same-length-2
 same-length-2 c = search needs

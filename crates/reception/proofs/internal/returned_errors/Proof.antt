@@ -6,6 +6,7 @@ use denote.Ref.{now}
 use lib.ListN.{length}
 use Rattle.layout.specs.Fields.{oneOf}
 use Rattle.digits.specs.Decimal.{numberIn}
+use Rattle.addresses.specs.Addresses.{codeIn}
 use Rattle.errors.specs.Listed.{idcTable, idcIn, named}
 use Rattle.terms.specs.Viewed as terms
 use Rattle.bids.specs.Columns.{bidsFrom}
@@ -42,9 +43,9 @@ returns c =
       λ b space s.
           let t = terms.viewed (a .t) (admissionOf b) in
           let x = receptionOf (now (a .m)) (a .day) (a .second) space in
-          judged t b x (numberIn (a .f .sender)) (numberIn (a .f .time)) (bidsFrom (a .f .places .rates) (a .f .places .amounts) 0 10) (c .with .result) (omega (arith, sixteen-with c)) (a .found) (a .taken) s own (omega (arith, sixteen e))
-          (e .errors-of .ensures .0 (admissionOf b) space (e .before .is-found .ensures ∙ ap isAt (s .found-is) ∙ sym (admitted-is (viewed b) (numberIn (a .f .sender)) 0)))
-          (λ empty. submission-is t (viewed b) x (start .pre .0) (start .pre .1 .1) empty ∙ taken-from (now (a .m)) (a .f) (numberIn (a .f .sender)) (numberIn (a .f .time)) (start .pre .1 .0) refl refl)
+          judged t b x (codeIn (a .f .sender)) (numberIn (a .f .time)) (bidsFrom (a .f .places .rates) (a .f .places .amounts) 0 10) (c .with .result) (omega (arith, sixteen-with c)) (a .found) (a .taken) s own (omega (arith, sixteen e))
+          (e .errors-of .ensures .0 (admissionOf b) space (e .before .is-found .ensures ∙ ap isAt (s .found-is) ∙ sym (admitted-is (viewed b) (codeIn (a .f .sender)) 0)))
+          (λ empty. submission-is t (viewed b) x (start .pre .0) (start .pre .1 .1) empty ∙ taken-from (now (a .m)) (a .f) (codeIn (a .f .sender)) (numberIn (a .f .time)) (start .pre .1 .0) refl refl)
           (c .with .ensures .0),
       omega (arith, e .errors-of .ensures .1, c .with .ensures .1),
     )
