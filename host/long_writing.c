@@ -113,6 +113,15 @@ static void unfit(const struct buffers *b, struct writing w)
     refused(b, &w, 17);
 }
 
+// What does not fit a long address is not looked at for a short one.
+static void unfit_if_long(const struct buffers *b, const struct writing *w, const struct addressed *a, size_t is_long)
+{
+    if (is_long)
+        unfit(b, *w);
+    else
+        written(b, w, a);
+}
+
 // Each mixture into every space from 0 to 400: 18 below its length, 338, 347 and 356 too.
 static void spaces(const struct buffers *b)
 {
@@ -155,8 +164,8 @@ static void wide_branches(const struct buffers *b)
             const struct addressed a = mixture(k);
             struct writing sender = writing_of(k), recipient = writing_of(k);
             sender.sender.branch = recipient.recipient.branch = others[i];
-            k & 1 ? unfit(b, sender) : written(b, &sender, &a);
-            k & 2 ? unfit(b, recipient) : written(b, &recipient, &a);
+            unfit_if_long(b, &sender, &a, k & 1);
+            unfit_if_long(b, &recipient, &a, k & 2);
         }
     }
 }
@@ -170,8 +179,8 @@ static void other_texts(const struct buffers *b)
             const struct addressed a = mixture(k);
             struct writing sender = writing_of(k), recipient = writing_of(k);
             sender.sender.text = recipient.recipient.text = others[i];
-            k & 1 ? unfit(b, sender) : written(b, &sender, &a);
-            k & 2 ? unfit(b, recipient) : written(b, &recipient, &a);
+            unfit_if_long(b, &sender, &a, k & 1);
+            unfit_if_long(b, &recipient, &a, k & 2);
         }
     }
 }
