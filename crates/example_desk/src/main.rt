@@ -26,7 +26,7 @@ fn receive(t: Tender, message: &[u8], time: u64) -> Tender
     requires { ⌜ Given t ⌝ }
     ensures { λ r. ⌜ Given r ⌝ }
 {
-    let mut reply = [0u8; 418];
+    let mut reply = [0u8; 436];
     let received = t.receive(message, 12032012, time, &mut reply);
     printing::text(b"receive at");
     printing::number(time);

@@ -1,4 +1,5 @@
 // The applications of the worked session.
+use addresses::Address;
 use envelope::application::Application;
 use envelope::application::write;
 use places::Amount;
@@ -11,8 +12,8 @@ pub fn application(code: u64, time: u64, rate: u32, amount: u64) -> [u8; 339] {
     let mut amounts = [Amount(0); 10];
     amounts[0] = Amount(amount);
     let numbers = Application {
-        sender: code,
-        recipient: 1000,
+        sender: Address::Code(code),
+        recipient: Address::Code(1000),
         cro: 1,
         date: 12032012,
         time,

@@ -1,6 +1,7 @@
 // Cases of the calls on a tender that run instead of being proved. Most of them stand in the file
 // stdin. What is printed is held to the file stdout, which was calculated from document 01 and not
 // by this program.
+mod branches;
 mod exceeding;
 mod lines;
 mod lists;
@@ -18,4 +19,5 @@ fn main() {
     lists::codes();
     orders::all();
     exceeding::bids();
+    branches::all();
 }

@@ -1,4 +1,5 @@
 // The announcement of document 01's tender, and applications to it.
+use addresses::Address;
 use envelope::application::Application;
 use envelope::application::write;
 use places::Amount;
@@ -24,23 +25,36 @@ pub fn announcing(a: [u8; 225], at: usize, text: &[u8]) -> [u8; 225] {
     m
 }
 
-// An application of a counterparty with a reference time and one bid.
-pub fn application(code: u64, time: u64, rate: u32, amount: u64) -> [u8; 339] {
+// What an application is written from: its addresses, its reference time and one bid.
+fn numbers(sender: Address, recipient: Address, time: u64, rate: u32, amount: u64) -> Application {
     let mut rates = [Rate(0); 10];
     rates[0] = Rate(rate);
     let mut amounts = [Amount(0); 10];
     amounts[0] = Amount(amount);
-    let a = Application {
-        sender: code,
-        recipient: 1000,
+    Application {
+        sender,
+        recipient,
         cro: 17,
         date: 12032012,
         time,
         check: 12345,
         rates,
         amounts,
-    };
+    }
+}
+
+// An application of a counterparty with a reference time and one bid.
+pub fn application(code: u64, time: u64, rate: u32, amount: u64) -> [u8; 339] {
+    let a = numbers(Address::Code(code), Address::Code(1000), time, rate, amount);
     let mut m = [0u8; 339];
+    write(a, b"6G1", b"T/2012/0001", b"CONTACT NAME   ", &mut m);
+    m
+}
+
+// The bid of the first application between two addresses, and zeros after it where one of them is short.
+pub fn application_between(sender: Address, recipient: Address, time: u64) -> [u8; 357] {
+    let a = numbers(sender, recipient, time, 150000, 60000);
+    let mut m = [0u8; 357];
     write(a, b"6G1", b"T/2012/0001", b"CONTACT NAME   ", &mut m);
     m
 }

@@ -38,7 +38,7 @@ fn arrive(t: Tender, order: &[u8], i: usize) -> Tender
 {
     let k = initial(rest(order, i));
     let m = message(k);
-    let mut space = [238u8; 418];
+    let mut space = [238u8; 436];
     t.receive(&m, 12032012, clock(k), &mut space).tender
 }
 

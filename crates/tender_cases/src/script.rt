@@ -69,7 +69,7 @@ fn timed(t: Tender, m: [u8; 339], line: &[u8]) -> Tender
         return steps::close(name, t, date, time);
     }
     if kind == b'S' {
-        return steps::receive_into_417(name, t, &m, date, time);
+        return steps::receive_into_435(name, t, &m, date, time);
     }
     if kind == b'E' {
         return steps::receive(kind, name, t, &m[0..338], date, time);

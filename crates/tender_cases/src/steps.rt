@@ -24,12 +24,12 @@ pub fn open(name: &[u8], a: [u8; 225], codes: &[u32]) -> Tender
     o.tender
 }
 
-// Receives a message into a space of 420 bytes.
+// Receives a message into a space of 438 bytes.
 pub fn receive(kind: u8, name: &[u8], t: Tender, m: &[u8], date: u64, time: u64) -> Tender
     requires { ⌜ Given t ⌝ }
     ensures { λ r. ⌜ Given r ⌝ }
 {
-    let mut space = [238u8; 420];
+    let mut space = [238u8; 438];
     let r = t.receive(m, date, time, &mut space);
     printing::text(name);
     lines::received(r);
@@ -38,12 +38,12 @@ pub fn receive(kind: u8, name: &[u8], t: Tender, m: &[u8], date: u64, time: u64)
     r.tender
 }
 
-// Receives a message into a space of 417 bytes, and prints how many of them stay.
-pub fn receive_into_417(name: &[u8], t: Tender, m: &[u8], date: u64, time: u64) -> Tender
+// Receives a message into a space of 435 bytes, and prints how many of them stay.
+pub fn receive_into_435(name: &[u8], t: Tender, m: &[u8], date: u64, time: u64) -> Tender
     requires { ⌜ Given t ⌝ }
     ensures { λ r. ⌜ Given r ⌝ }
 {
-    let mut space = [238u8; 417];
+    let mut space = [238u8; 435];
     let r = t.receive(m, date, time, &mut space);
     printing::text(name);
     lines::received(r);
