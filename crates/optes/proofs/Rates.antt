@@ -2,6 +2,7 @@
 use mathlib.Core.Path.{_≡_, refl, sym, ap, ap₂, _∙_}
 use mathlib.Core.Bool.{Bool, true, false, cond, _&&_}
 use mathlib.Core.List.{List, [], _∷_, map}
+use mathlib.Core.Option.{Option}
 use Prim.Native.Nat.{ℕ, _≤_, _<_, _^_}
 use native.Mathlib.Omega.{arith}
 use lib.Dec.{ltb}
@@ -53,9 +54,10 @@ refused : (a b : Application) (kind identifier name space : List ℕ) → number
 unfolding write firstHolding
 refused a b kind identifier name space p q = rw (p, q)
 
-pub held-write : (a : Application) (rs : List ℕ) (kind identifier name space : List ℕ) → length rs ≤ length (a .amounts)
+-- and where they do, the rates are the same
+same-write : (a : Application) (rs : List ℕ) (kind identifier name space : List ℕ) → length rs ≤ length (a .amounts)
     → write (withRates a (map heldRate rs)) kind identifier name space ≡ write (withRates a (map rateOf rs)) kind identifier name space
-held-write a rs kind identifier name space l = go (numbersFit (withRates a (map rateOf rs))) refl
+same-write a rs kind identifier name space l = go (numbersFit (withRates a (map rateOf rs))) refl
   where
     same : numbersFit (withRates a (map heldRate rs)) ≡ numbersFit (withRates a (map rateOf rs))
     same = unfold numbersFit in ap (λ (t : Bool). addressFits (a .sender) && addressFits (a .recipient) && fits 11 (a .cro) && fits 8 (a .date) && fits 6 (a .time) && fits 5 (a .check) && t) (held-places rs (a .amounts))
@@ -65,3 +67,8 @@ held-write a rs kind identifier name space l = go (numbersFit (withRates a (map 
     go true e =
         let f = and-right (addressFits (a .sender) && addressFits (a .recipient) && fits 11 (a .cro) && fits 8 (a .date) && fits 6 (a .time) && fits 5 (a .check)) (placesFit (map rateOf rs) (a .amounts)) (unfold numbersFit in e) in
         ap (λ (rates : List Rate). write (withRates a rates) kind identifier name space) (same-rates rs (a .amounts) l f)
+
+-- an application whose rates are held is written, or refused, as that with the rates themselves
+pub held-write : (a held : Application) (rs : List ℕ) (kind identifier name space : List ℕ) (answer : Option ℕ × List ℕ) → length rs ≤ length (a .amounts) → held ≡ withRates a (map heldRate rs)
+    → answer ≡ write held kind identifier name space → answer ≡ write (withRates a (map rateOf rs)) kind identifier name space
+held-write a held rs kind identifier name space answer l e w = w ∙ ap (λ (x : Application). write x kind identifier name space) e ∙ same-write a rs kind identifier name space l

@@ -1,12 +1,13 @@
 -- What a host in C is answered (document 01, 'Replies and writing'). Assumes nothing.
-use mathlib.Core.Bool.{cond}
-use mathlib.Core.List.{List, map}
+use mathlib.Core.Bool.{cond, _&&_}
+use mathlib.Core.List.{List}
 use mathlib.Core.Option.{Option, none, some}
 use Prim.Native.Nat.{ℕ}
-use lib.Dec.{ltb}
-use lib.ListN.{length}
+use lib.Dec.{eqb, ltb}
+use lib.ListN.{length, getD}
 use Rattle.layout.specs.Fields.{content}
-use Rattle.addresses.specs.declared.Address.the-variants.{Code}
+use Rattle.addresses.specs.declared.Address.{Address}
+use Rattle.addresses.specs.declared.Address.the-variants.{Malformed, Code, Branch}
 use Rattle.places.specs.declared.Rate.{Rate}
 use Rattle.places.specs.declared.Amount.{Amount}
 use Rattle.envelope.specs.declared.application.Application.{Application}
@@ -31,25 +32,30 @@ lengthOf k m = cond (hasField k m) (length (content k m)) 0
 unfoldable pub numbersRead : List ℕ → List ℕ → Option ℕ × List ℕ
 numbersRead m array = (readingRefused m, unlessRefused (readingRefused m) array (inArray (numbersOf m) array))
 
--- the application of 26 numbers, its sender and recipient short
+-- 'The long form is written from two numbers and a two-character text': the address of a code, a length, a second number and a text,
+-- none where the length is that of neither form or the long form's text is not two characters
+unfoldable pub addressFrom : ℕ → ℕ → ℕ → List ℕ → Address
+addressFrom code n branch text = cond (eqb n 5) (Code code) (cond (eqb n 14 && eqb (length text) 2) (Branch code branch (getD text 0 0) (getD text 1 0)) Malformed)
+
+-- the application of two addresses, the numbers of the other digit fields, and ten places
+abbrev pub applicationOf : Address → Address → ℕ → ℕ → ℕ → ℕ → List Rate → List Amount → Application
+applicationOf sender recipient cro date time check rates amounts =
+    record {
+      sender = sender;
+      recipient = recipient;
+      cro = cro;
+      date = date;
+      time = time;
+      check = check;
+      rates = rates;
+      amounts = amounts;
+    }
+
 abbrev pub rateOf : ℕ → Rate
 rateOf n = record { 0 = n }
 
 abbrev pub amountOf : ℕ → Amount
 amountOf n = record { 0 = n }
-
-abbrev pub applicationOf : ℕ → ℕ → ℕ → ℕ → ℕ → ℕ → List ℕ → List ℕ → Application
-applicationOf sender recipient cro date time check rates amounts =
-    record {
-      sender = Code sender;
-      recipient = Code recipient;
-      cro = cro;
-      date = date;
-      time = time;
-      check = check;
-      rates = map rateOf rates;
-      amounts = map amountOf amounts;
-    }
 
 -- a rate as the code holds it, in 32 bits
 unfoldable pub heldRate : ℕ → Rate

@@ -15,3 +15,4 @@ pub use reading::optes_6g1_read;
 pub use reading::optes_6g1_start;
 pub use whole::optes_6g1_numbers;
 pub use writing::optes_6g1_write;
+pub use writing::optes_6g1_write_addresses;

@@ -1,4 +1,5 @@
-// A 6G1 written for a host: 26 numbers, three texts and the space. Its sender and recipient are short.
+// A 6G1 written for a host from numbers, texts and the space: with short addresses, or with each in the
+// form that the host names.
 use addresses::Address;
 use envelope::application::Application;
 use envelope::application::WriteAnswer;
@@ -6,9 +7,10 @@ use envelope::application::write;
 use places::Amount;
 use places::Rate;
 ghost use mathlib.Core.Path.{_≡_};
-ghost use mathlib.Core.List.{[], _∷_};
+ghost use mathlib.Core.List.{[], _∷_, map};
+ghost use Rattle.addresses.specs.declared.Address.the-variants.{Code};
 ghost use Rattle.envelope.specs.Application.{write, writeRefusal};
-ghost use Rattle.optes.specs.Interface.{answerNumber, answered, applicationOf, heldRate};
+ghost use Rattle.optes.specs.Interface.{addressFrom, amountOf, answerNumber, answered, applicationOf, heldRate, rateOf};
 
 // A rate as far as 32 bits hold it. The widest that they hold is as much too wide for its field.
 fn rate(n: u64) -> Rate
@@ -18,6 +20,57 @@ fn rate(n: u64) -> Rate
         Rate(n as u32)
     } else {
         Rate(4294967295)
+    }
+}
+
+// Ten rates, each as far as 32 bits hold it.
+fn held_rates(rates: [u64; 10]) -> [Rate; 10]
+    ensures { λ r. ⌜ r ≡ map heldRate rates ⌝ }
+{
+    let mut held = [Rate(0); 10];
+    let mut i = 0;
+    while i < 10 {
+        held[i] = rate(rates[i]);
+        i += 1;
+    }
+    held
+}
+
+// The address of a length, which is that of one of the two forms; the short form has only the code.
+fn address(code: u64, length: u64, branch: u64, text: &[u8]) -> Address
+    ensures { λ r. ⌜ r ≡ addressFrom code length branch (now (text .entry)) ⌝ }
+{
+    if length == 5 {
+        return Address::Code(code);
+    }
+    if (length == 14) & (text.len() == 2) {
+        return Address::Branch(code, branch, text[0], text[1]);
+    }
+    Address::Malformed
+}
+
+// The application of two addresses and numbers.
+fn application(
+    sender: Address,
+    recipient: Address,
+    cro: u64,
+    date: u64,
+    time: u64,
+    check: u64,
+    rates: [u64; 10],
+    amounts: [Amount; 10],
+) -> Application
+    ensures { λ r. ⌜ r ≡ applicationOf sender recipient cro date time check (map heldRate rates) amounts ⌝ }
+{
+    Application {
+        sender,
+        recipient,
+        cro,
+        date,
+        time,
+        check,
+        rates: held_rates(rates),
+        amounts,
     }
 }
 
@@ -66,22 +119,22 @@ pub extern "C" fn optes_6g1_write(
     name: &[u8],
     space: &mut [u8],
 ) -> u32
-    ensures { λ r. ⌜ (r, now (space .exit)) ≡ answered (write (applicationOf sender recipient cro date time check
-        (rate0 ∷ rate1 ∷ rate2 ∷ rate3 ∷ rate4 ∷ rate5 ∷ rate6 ∷ rate7 ∷ rate8 ∷ rate9 ∷ [])
-        (amount0 ∷ amount1 ∷ amount2 ∷ amount3 ∷ amount4 ∷ amount5 ∷ amount6 ∷ amount7 ∷ amount8 ∷ amount9 ∷ []))
+    ensures { λ r. ⌜ (r, now (space .exit)) ≡ answered (write (applicationOf (Code sender) (Code recipient) cro date time check
+        (map rateOf (rate0 ∷ rate1 ∷ rate2 ∷ rate3 ∷ rate4 ∷ rate5 ∷ rate6 ∷ rate7 ∷ rate8 ∷ rate9 ∷ []))
+        (map amountOf (amount0 ∷ amount1 ∷ amount2 ∷ amount3 ∷ amount4 ∷ amount5 ∷ amount6 ∷ amount7 ∷ amount8 ∷ amount9 ∷ [])))
         (now (kind .entry)) (now (identifier .entry)) (now (name .entry)) (now (space .entry))) ⌝ }
 {
     let rates = [
-        rate(rate0),
-        rate(rate1),
-        rate(rate2),
-        rate(rate3),
-        rate(rate4),
-        rate(rate5),
-        rate(rate6),
-        rate(rate7),
-        rate(rate8),
-        rate(rate9),
+        rate0,
+        rate1,
+        rate2,
+        rate3,
+        rate4,
+        rate5,
+        rate6,
+        rate7,
+        rate8,
+        rate9,
     ];
     let amounts = [
         Amount(amount0),
@@ -95,15 +148,92 @@ pub extern "C" fn optes_6g1_write(
         Amount(amount8),
         Amount(amount9),
     ];
-    let a = Application {
-        sender: Address::Code(sender),
-        recipient: Address::Code(recipient),
-        cro,
-        date,
-        time,
-        check,
-        rates,
-        amounts,
-    };
+    let from = Address::Code(sender);
+    let to = Address::Code(recipient);
+    let a = application(from, to, cro, date, time, check, rates, amounts);
+    number(write(a, kind, identifier, name, space))
+}
+
+// Writes a 6G1 whose addresses have length 5 or 14, as optes_6g1_write does: another length, or a long
+// address whose text is not two characters, is answered with 17.
+#[no_mangle]
+pub extern "C" fn optes_6g1_write_addresses(
+    sender: u64,
+    sender_length: u64,
+    sender_branch: u64,
+    recipient: u64,
+    recipient_length: u64,
+    recipient_branch: u64,
+    cro: u64,
+    date: u64,
+    time: u64,
+    check: u64,
+    rate0: u64,
+    rate1: u64,
+    rate2: u64,
+    rate3: u64,
+    rate4: u64,
+    rate5: u64,
+    rate6: u64,
+    rate7: u64,
+    rate8: u64,
+    rate9: u64,
+    amount0: u64,
+    amount1: u64,
+    amount2: u64,
+    amount3: u64,
+    amount4: u64,
+    amount5: u64,
+    amount6: u64,
+    amount7: u64,
+    amount8: u64,
+    amount9: u64,
+    sender_text: &[u8],
+    recipient_text: &[u8],
+    kind: &[u8],
+    identifier: &[u8],
+    name: &[u8],
+    space: &mut [u8],
+) -> u32
+    ensures { λ r. ⌜ (r, now (space .exit)) ≡ answered (write (applicationOf
+        (addressFrom sender «sender_length» «sender_branch» (now («sender_text» .entry)))
+        (addressFrom recipient «recipient_length» «recipient_branch» (now («recipient_text» .entry)))
+        cro date time check
+        (map rateOf (rate0 ∷ rate1 ∷ rate2 ∷ rate3 ∷ rate4 ∷ rate5 ∷ rate6 ∷ rate7 ∷ rate8 ∷ rate9 ∷ []))
+        (map amountOf (amount0 ∷ amount1 ∷ amount2 ∷ amount3 ∷ amount4 ∷ amount5 ∷ amount6 ∷ amount7 ∷ amount8 ∷ amount9 ∷ [])))
+        (now (kind .entry)) (now (identifier .entry)) (now (name .entry)) (now (space .entry))) ⌝ }
+{
+    let rates = [
+        rate0,
+        rate1,
+        rate2,
+        rate3,
+        rate4,
+        rate5,
+        rate6,
+        rate7,
+        rate8,
+        rate9,
+    ];
+    let amounts = [
+        Amount(amount0),
+        Amount(amount1),
+        Amount(amount2),
+        Amount(amount3),
+        Amount(amount4),
+        Amount(amount5),
+        Amount(amount6),
+        Amount(amount7),
+        Amount(amount8),
+        Amount(amount9),
+    ];
+    let from = address(sender, sender_length, sender_branch, sender_text);
+    let to = address(
+        recipient,
+        recipient_length,
+        recipient_branch,
+        recipient_text,
+    );
+    let a = application(from, to, cro, date, time, check, rates, amounts);
     number(write(a, kind, identifier, name, space))
 }
