@@ -1,6 +1,6 @@
 -- `optes::writing::optes_6g1_write_addresses` meets its contract. Assumes nothing.
 use borrow.Author.Needs.{needs}
-use mathlib.Core.Path.{ap, ap₂, _∙_}
+use mathlib.Core.Path.{_≡_, ap, ap₂, _∙_}
 use mathlib.Core.List.{List, [], _∷_, map}
 use Prim.Native.Nat.{ℕ}
 use native.Mathlib.Omega.{arith}
@@ -38,11 +38,13 @@ returns c =
     let a = c .before .before .before .before .before .before .before .before .before .before .before .before .before .before .args in
     let rs : List ℕ = a .rate0 ∷ a .rate1 ∷ a .rate2 ∷ a .rate3 ∷ a .rate4 ∷ a .rate5 ∷ a .rate6 ∷ a .rate7 ∷ a .rate8 ∷ a .rate9 ∷ [] in
     let qs : List Amount = map amountOf (a .amount0 ∷ a .amount1 ∷ a .amount2 ∷ a .amount3 ∷ a .amount4 ∷ a .amount5 ∷ a .amount6 ∷ a .amount7 ∷ a .amount8 ∷ a .amount9 ∷ []) in
-    let from = c .before .before .before .before .before .before .before .address in
-    let to = c .before .before .before .before .before .before .address2 in
+    let sender = addressFrom (a .sender) (a .sender-length) (a .sender-branch) (now (a .sender-text)) in
+    let recipient = addressFrom (a .recipient) (a .recipient-length) (a .recipient-branch) (now (a .recipient-text)) in
+    let from : c .before .before .before .before .before .before .before .address .result ≡ sender = c .before .before .before .before .before .before .before .address .ensures in
+    let to : c .before .before .before .before .before .before .address2 .result ≡ recipient = c .before .before .before .before .before .before .address2 .ensures in
     let with : Address → Address → List Rate → Application = λ x y rates. applicationOf x y (a .cro) (a .date) (a .time) (a .check) rates qs in
-    let b = with (addressFrom (a .sender) (a .sender-length) (a .sender-branch) (now (a .sender-text))) (addressFrom (a .recipient) (a .recipient-length) (a .recipient-branch) (now (a .recipient-text))) (map rateOf rs) in
-    let e = c .before .before .before .before .before .application .ensures ∙ ap₂ (λ (x y : Address). with x y (map heldRate rs)) (from .ensures) (to .ensures) in
+    let b = with sender recipient (map rateOf rs) in
+    let e = c .before .before .before .before .before .application .ensures ∙ ap₂ (λ (x y : Address). with x y (map heldRate rs)) from to in
     let space = c .before .before .before .write .last .1 .1 .1 .1 .0 in
     let w = held-write b (c .before .before .before .before .before .application .result) rs (now (a .kind)) (now (a .identifier)) (now (a .name)) (now (a .space)) (writeRefusal (c .before .before .before .write .result), space) (omega arith) e (c .before .before .before .write .ensures) in
     ap (λ (n : ℕ). (n, space)) (c .number .ensures) ∙ ap answered w
