@@ -1,5 +1,6 @@
 // Cases of the envelope that run instead of being proved. What is printed is held to the file
 // stdout, which was written from document 01.
+mod branches;
 mod message;
 mod numbers;
 mod reading;
@@ -19,6 +20,8 @@ fn main() {
     writing::identifiers();
     writing::kinds();
     writing::spaces();
+    branches::spaces();
+    branches::bytes();
     times::dates();
     times::hours();
     times::order();

@@ -1,4 +1,6 @@
 // The message that the cases alter: document 01's first bid, with nine more places.
+use addresses::Address;
+use digits::Digits;
 use envelope::application::Application;
 use envelope::application::ReadAnswer;
 use envelope::application::WriteAnswer;
@@ -55,9 +57,14 @@ pub fn with(at: usize, b: u8) -> [u8; 339] {
 
 // The application that the message is written from.
 pub fn application() -> Application {
+    between(Address::Code(90002), Address::Code(1000))
+}
+
+// The same between other addresses.
+pub fn between(sender: Address, recipient: Address) -> Application {
     Application {
-        sender: 90002,
-        recipient: 1000,
+        sender,
+        recipient,
         cro: 17,
         date: 12032012,
         time: 102900,
@@ -86,6 +93,15 @@ pub fn application() -> Application {
             Amount(0),
             Amount(0),
         ],
+    }
+}
+
+// The number of a short address; the other forms have none here.
+pub fn code(a: Address) -> Digits {
+    match a {
+        Address::Malformed => Digits::None,
+        Address::Code(n) => Digits::Number(n),
+        Address::Branch(_, _, _, _) => Digits::None,
     }
 }
 

@@ -18,8 +18,14 @@ const OTHER: [u8; 5] = [32, 178, 0, 47, 58];
 // Digit field k of those that were read.
 fn field(f: Fields, k: usize) -> Digits {
     match k {
-        0 => f.sender,
-        1 => f.recipient,
+        0 => {
+            let sender = f.sender;
+            message::code(sender)
+        }
+        1 => {
+            let recipient = f.recipient;
+            message::code(recipient)
+        }
         2 => f.cro,
         3 => f.date,
         4 => f.time,

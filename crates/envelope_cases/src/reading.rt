@@ -16,8 +16,8 @@ fn numbers(name: &[u8], m: &[u8]) {
     let check = f.check;
     printing::text(name);
     printing::number(message::refusal(m));
-    printing::digits(sender);
-    printing::digits(recipient);
+    printing::digits(message::code(sender));
+    printing::digits(message::code(recipient));
     printing::digits(cro);
     printing::digits(date);
     printing::digits(time);

@@ -1,5 +1,6 @@
 // Which applications are written, and what a refused writing leaves.
 use crate::message;
+use addresses::Address;
 use envelope::application::Application;
 use envelope::application::write;
 use places::Amount;
@@ -21,9 +22,9 @@ const LIMITS: [u64; 8] = [
 fn with_field(k: usize, n: u64) -> Application {
     let mut a = message::application();
     if k == 0 {
-        a.sender = n;
+        return message::between(Address::Code(n), Address::Code(1000));
     } else if k == 1 {
-        a.recipient = n;
+        return message::between(Address::Code(90002), Address::Code(n));
     } else if k == 2 {
         a.cro = n;
     } else if k == 3 {

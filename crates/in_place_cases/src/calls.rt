@@ -95,42 +95,42 @@ pub struct Reception {
     pub room: usize,
 }
 
-// A whole message on document 01's day, with room of 420 bytes.
+// A whole message on document 01's day, with room of 438 bytes.
 pub fn at(time: u64) -> Reception {
     Reception {
         length: 339,
         date: 12032012,
         time,
-        room: 420,
+        room: 438,
     }
 }
 
-// A number, or 339 where it is larger.
-pub fn up_to_339(n: usize) -> usize
-    ensures { λ r. ⌜ r ≤ 339 ⌝ }
+// A number, or 348 where it is larger.
+pub fn up_to_348(n: usize) -> usize
+    ensures { λ r. ⌜ r ≤ 348 ⌝ }
 {
-    if n < 339 { n } else { 339 }
+    if n < 348 { n } else { 348 }
 }
 
-// A number, or 420 where it is larger.
-pub fn up_to_420(n: usize) -> usize
-    ensures { λ r. ⌜ r ≤ 420 ⌝ }
+// A number, or 438 where it is larger.
+pub fn up_to_438(n: usize) -> usize
+    ensures { λ r. ⌜ r ≤ 438 ⌝ }
 {
-    if n < 420 { n } else { 420 }
+    if n < 438 { n } else { 438 }
 }
 
 // What a reception tells, with its reply space and the words after it.
 pub struct Replied {
     pub told: Told,
-    pub space: [u8; 420],
+    pub space: [u8; 438],
     pub words: [u64; 1496],
 }
 
 // Receives a message. For words that hold no tender the reply has the length 99, which none has.
 pub fn receive(before: [u64; 1496], m: &[u8], at: Reception) -> Replied {
     let mut words = before;
-    let room = up_to_420(at.room);
-    let mut space = [238u8; 420];
+    let room = up_to_438(at.room);
+    let mut space = [238u8; 438];
     if !is_tender(&words) {
         return Replied {
             told: Told {

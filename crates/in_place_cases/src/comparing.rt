@@ -144,6 +144,6 @@ pub fn same_tender(t: Tender, words: [u64; 1496]) -> bool {
 }
 
 // Whether two reply spaces are the same.
-pub fn same_spaces(a: [u8; 420], b: [u8; 420]) -> bool {
+pub fn same_spaces(a: [u8; 438], b: [u8; 438]) -> bool {
     texts::same(&a, &b)
 }

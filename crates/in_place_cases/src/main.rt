@@ -11,6 +11,8 @@ fn main() {
     sessions::run(b"abcdbnortsulADBCaCAAaCV");
     // A tender for LA with errors and a cancellation, one without bids, and openings refused.
     sessions::run(b"LfghijckCALkCAXEN");
+    // Branches of one code: the second at the time of the first, then later.
+    sessions::run(b"vwxaCA");
     // Tenders revoked open and closed.
     sessions::run(b"aVasnCAVOaCVanCAV");
 }

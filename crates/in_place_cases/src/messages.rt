@@ -1,4 +1,5 @@
-// The announcement and the first application of document 01's session, and both with other bytes.
+// The announcement and the first application of document 01's session, and both with other bytes. An application of 339 bytes
+// stands at the start of 348, which one of a branch fills.
 use output::internal::put;
 
 // The announcement with another text from an index on.
@@ -26,7 +27,7 @@ pub fn announcing(at: usize, text: &[u8]) -> [u8; 225] {
 }
 
 // The first application.
-pub fn first() -> [u8; 339] {
+pub fn first() -> [u8; 348] {
     let application = b"\x01\x00\x036G1\
         \x04\x00\x0590002\
         \x05\x00\x0501000\
@@ -40,16 +41,16 @@ pub fn first() -> [u8; 339] {
         00000000/00000000000000000000000/00000000000000000000000/000000000000000\
         00000000/00000000000000000000000/00000000000000000000000/000000000000000\
         \x7f\x00\x0fCONTACT NAME   ";
-    let mut m = [0u8; 339];
+    let mut m = [0u8; 348];
     put(&mut m, 0, application);
     m
 }
 
 // An application with another text from an index on.
-pub fn with(a: [u8; 339], at: usize, text: &[u8]) -> [u8; 339] {
+pub fn with(a: [u8; 348], at: usize, text: &[u8]) -> [u8; 348] {
     let mut m = a;
-    if at < 339 {
-        if text.len() <= 339 - at {
+    if at < 348 {
+        if text.len() <= 348 - at {
             put(&mut m, at, text);
         }
     }
@@ -57,12 +58,26 @@ pub fn with(a: [u8; 339], at: usize, text: &[u8]) -> [u8; 339] {
 }
 
 // The application of a counterparty at a reference time, with bids from the first place on.
-pub fn application(code: &[u8], time: &[u8], bids: &[u8]) -> [u8; 339] {
+pub fn application(code: &[u8], time: &[u8], bids: &[u8]) -> [u8; 348] {
     with(with(with(first(), 9, code), 50, time), 81, bids)
 }
 
+// The first application from a branch.
+pub fn of_branch() -> [u8; 348] {
+    let short = first();
+    let mut m = short;
+    put(&mut m, 6, b"\x04\x00\x0e90002/00117/AB");
+    put(&mut m, 23, &short[14..339]);
+    m
+}
+
+// The same from another branch.
+pub fn of_other_branch() -> [u8; 348] {
+    with(of_branch(), 15, b"00118/CD")
+}
+
 // The first application with errors in its type, sender, recipient, CRO and date.
-pub fn five_errors() -> [u8; 339] {
+pub fn five_errors() -> [u8; 348] {
     let m = with(with(first(), 3, b"6G2"), 9, b"90004");
     with(
         with(with(m, 17, b"01001"), 25, b"0000000001x"),
@@ -72,12 +87,12 @@ pub fn five_errors() -> [u8; 339] {
 }
 
 // The same with an error in its time.
-pub fn six_errors() -> [u8; 339] {
+pub fn six_errors() -> [u8; 348] {
     with(five_errors(), 50, b"240000")
 }
 
 // The same with errors in its check digit, its identifier and its bids.
-pub fn more_errors() -> [u8; 339] {
+pub fn more_errors() -> [u8; 348] {
     let bids = b"00120500/000000000009999\
         00000000/000000000000000\
         00120000/000000000025000\
@@ -91,13 +106,13 @@ pub fn more_errors() -> [u8; 339] {
 }
 
 // In LA a bid below the limit rate and one above it.
-pub fn in_and_out() -> [u8; 339] {
+pub fn in_and_out() -> [u8; 348] {
     let bids = b"00090000/00000000006000000101000/000000000010000";
     application(b"90002", b"102900", bids)
 }
 
 // A bid at the limit rate and one at zero.
-pub fn at_limit() -> [u8; 339] {
+pub fn at_limit() -> [u8; 348] {
     let bids = b"00100000/00000000005000000000000/000000000020000";
     application(b"90001", b"102900", bids)
 }

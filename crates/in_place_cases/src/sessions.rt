@@ -8,6 +8,8 @@ use crate::messages::first;
 use crate::messages::five_errors;
 use crate::messages::in_and_out;
 use crate::messages::more_errors;
+use crate::messages::of_branch;
+use crate::messages::of_other_branch;
 use crate::messages::six_errors;
 use crate::messages::with;
 use crate::steps::Both;
@@ -43,8 +45,8 @@ fn opening(k: u8) -> Both
     open(a, &codes)
 }
 
-// The message of a reception: b, c and d are the others of document 01's session, k cancels.
-fn message(k: u8) -> [u8; 339] {
+// The message of a reception: b, c and d are the others of document 01's session, k cancels, v to x come from branches.
+fn message(k: u8) -> [u8; 348] {
     match k {
         b'b' => application(b"90001", b"103100", b"00120000/000000000050000"),
         b'c' => application(b"90003", b"103400", b"00120000/000000000040000"),
@@ -57,6 +59,9 @@ fn message(k: u8) -> [u8; 339] {
         b'k' => application(b"90003", b"103500", b"00000000/000000000000000"),
         b't' => with(first(), 6, b"!"),
         b'u' => with(first(), 50, b"103000"),
+        b'v' => of_branch(),
+        b'w' => of_other_branch(),
+        b'x' => with(of_other_branch(), 59, b"103000"),
         _ => first(),
     }
 }
@@ -76,15 +81,18 @@ fn reception(k: u8) -> Reception {
     match k {
         b'B' => at(110000),
         b'C' => at(110001),
-        b'D' => on(339, 30022012, 420),
-        b'g' => on(339, 12032012, 418),
+        b'D' => on(339, 30022012, 438),
+        b'g' => on(339, 12032012, 436),
         b'h' => at(110001),
         b'l' => at(110001),
-        b'n' => on(339, 30022012, 420),
+        b'n' => on(339, 30022012, 438),
         b'o' => at(240000),
-        b'r' => on(338, 12032012, 420),
-        b's' => on(339, 12032012, 417),
-        b'u' => on(339, 12032012, 418),
+        b'r' => on(338, 12032012, 438),
+        b's' => on(339, 12032012, 435),
+        b'u' => on(339, 12032012, 436),
+        b'v' => on(348, 12032012, 436),
+        b'w' => on(348, 12032012, 436),
+        b'x' => on(348, 12032012, 436),
         _ => at(104100),
     }
 }

@@ -69,7 +69,7 @@ pub fn open(a: [u8; 225], codes: &[u32]) -> Both
 // What a reception by value gives, with its reply space.
 struct ByValue {
     received: Received,
-    space: [u8; 420],
+    space: [u8; 438],
 }
 
 // Receives a message by value.
@@ -77,8 +77,8 @@ fn receive_by_value(t: Tender, m: &[u8], at: Reception) -> ByValue
     requires { ⌜ Given t ⌝ }
     ensures { λ r. ⌜ Given (r .received .tender) ⌝ }
 {
-    let room = calls::up_to_420(at.room);
-    let mut space = [238u8; 420];
+    let room = calls::up_to_438(at.room);
+    let mut space = [238u8; 438];
     let received = t.receive(m, at.date, at.time, &mut space[0..room]);
     ByValue { received, space }
 }
@@ -120,11 +120,15 @@ fn received(r: Received, same: bool) {
     end(same);
 }
 
-// The sender and the reference time of a message, and its reception.
-fn arriving(m: [u8; 339], at: Reception) {
+// The sender's code and the reference time of a message, which stands nine bytes later in one of a branch, and its reception.
+fn arriving(m: [u8; 348], at: Reception) {
     printing::text(&m[9..14]);
     printing::text(b" ");
-    printing::text(&m[50..56]);
+    if at.length == 348 {
+        printing::text(&m[59..65]);
+    } else {
+        printing::text(&m[50..56]);
+    }
     printing::text(b" received");
     printing::number(at.date);
     printing::number(at.time);
@@ -132,14 +136,14 @@ fn arriving(m: [u8; 339], at: Reception) {
 }
 
 // Receives a message.
-pub fn receive(b: Both, m: [u8; 339], at: Reception) -> Both
+pub fn receive(b: Both, m: [u8; 348], at: Reception) -> Both
     requires { ⌜ Given (b .tender) ⌝ }
     ensures { λ r. ⌜ Given (r .tender) ⌝ }
 {
     let t = b.tender;
     let words = b.words;
     arriving(m, at);
-    let end = calls::up_to_339(at.length);
+    let end = calls::up_to_348(at.length);
     let by_value = receive_by_value(t, &m[0..end], at);
     let r = by_value.received;
     let tender = r.tender;

@@ -5,8 +5,8 @@ use borrow.Author.Needs.{needs}
 use Rattle.in_place_cases.proofs.calls.receive.Statement.{statement}
 use Rattle.in_place_cases.proofs.calls.receive.Tie as tie
 
-up-to-420-requires : tie.Need-up-to-420-requires
-up-to-420-requires c κs = search needs
+up-to-438-requires : tie.Need-up-to-438-requires
+up-to-438-requires c κs = search needs
 
 slice-aggregate-is-tender : tie.Need-slice-aggregate-is-tender
 slice-aggregate-is-tender c = search needs
@@ -42,7 +42,7 @@ pub receive-spec : {M : Type 1} → statement M
 receive-spec =
     tie.close
     (tie.spec
-    up-to-420-requires
+    up-to-438-requires
     slice-aggregate-is-tender
     is-tender-requires
     none-requires
