@@ -132,18 +132,18 @@ fn push_award(lines: &mut Vec<u8>, award: &Award) {
     lines.push(b'\n');
 }
 
-/// The log of a session, and whether all of the session was taken before the log ended.
-pub fn log_with_end(session: &[u8]) -> (Vec<u8>, bool) {
+/// The log of a session, and how many of its bytes were taken before the log ended.
+pub fn log_with_end(session: &[u8]) -> (Vec<u8>, usize) {
     let mut journal = Journal::new();
     let mut lines = Vec::new();
     let mut rest = session;
     while let Some((tag, contents, after)) = envelope::split_field(rest) {
         if journal.step(tag, contents, &mut lines).is_break() {
-            return (lines, false);
+            break;
         }
         rest = after;
     }
-    (lines, rest.is_empty())
+    (lines, session.len() - rest.len())
 }
 
 /// The log of a session.

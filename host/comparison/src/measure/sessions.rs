@@ -47,7 +47,7 @@ pub fn mixed() -> Vec<u8> {
     let mut bytes = Vec::new();
     let mut fields = 0;
     let sessions = (DEFAULT_SEED..).map(generate::session);
-    for session in sessions.filter(|session| log_with_end(session).1) {
+    for session in sessions.filter(|session| log_with_end(session).1 == session.len()) {
         fields += fields_of(&session).len();
         bytes.extend_from_slice(&session);
         if fields >= MIXED_FIELDS {
@@ -97,8 +97,8 @@ mod tests {
 
     /// How many lines of the log start with this letter, where the whole session was taken.
     fn lines(session: &[u8], letter: u8) -> u64 {
-        let (log, whole) = log_with_end(session);
-        assert!(whole);
+        let (log, end) = log_with_end(session);
+        assert_eq!(end, session.len());
         log.split(|&byte| byte == b'\n').filter(|line| line.first() == Some(&letter)).count() as u64
     }
 

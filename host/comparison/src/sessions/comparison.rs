@@ -36,6 +36,14 @@ impl From<io::Error> for Stop {
     }
 }
 
+/// Whether the program says where the log of these bytes ended, or nothing where it is whole.
+fn tells(said: &[u8], bytes: &[u8], end: usize) -> bool {
+    if end == bytes.len() {
+        return said.is_empty();
+    }
+    said.starts_with(format!("session_log: ended at byte {end}: ").as_bytes())
+}
+
 impl Comparison {
     pub fn new(program: String) -> Comparison {
         Comparison { program, batch: Vec::new(), batch_bytes: 0, ended: 0, tally: Tally::default() }
@@ -51,8 +59,7 @@ impl Comparison {
 
     /// Compares a session that ends its log by itself, and lets another wait for its batch.
     fn take(&mut self, session: Seeded) -> Result<(), Stop> {
-        let (_, goes_on) = session::log_with_end(&session.bytes);
-        if goes_on {
+        if session::log_with_end(&session.bytes).1 == session.bytes.len() {
             self.batch_bytes += session.bytes.len();
             self.batch.push(session);
             return if self.batch_bytes < BATCH_BYTES { Ok(()) } else { self.finish_batch() };
@@ -89,13 +96,14 @@ impl Comparison {
         Ok(Seeded { seed: first, bytes: joined })
     }
 
-    /// Whether the program's log of these bytes is another than the library's.
+    /// Whether the program's log of these bytes is another than the library's, or ends elsewhere.
     fn differs(&self, bytes: &[u8]) -> io::Result<bool> {
-        let expected = session::log(bytes);
+        let (expected, end) = session::log_with_end(bytes);
         let mut streamed = Vec::new();
         session::stream(bytes, &mut streamed)?;
         assert!(streamed == expected, "the library's two logs differ");
-        Ok(program::output_of(&self.program, bytes)? != Some(expected))
+        let printed = program::output_of(&self.program, bytes)?;
+        Ok(!printed.is_some_and(|given| given.log == expected && tells(&given.said, bytes, end)))
     }
 
     /// The session without the steps that its difference does not need.
@@ -128,7 +136,10 @@ impl Comparison {
         eprintln!("its session is in {path}.session, with fewer steps in {path}.reduced");
         let given = program::output_of(&self.program, &reduced)?;
         match given {
-            Some(log) => eprintln!("the program's log:\n{}", String::from_utf8_lossy(&log)),
+            Some(given) => {
+                eprintln!("the program's log:\n{}", String::from_utf8_lossy(&given.log));
+                eprintln!("it said:\n{}", String::from_utf8_lossy(&given.said));
+            }
             None => eprintln!("the program failed"),
         }
         eprintln!("the log by document 01:\n{}", String::from_utf8_lossy(&session::log(&reduced)));
