@@ -15,7 +15,7 @@ use Rattle.digits.specs.Decimal.{allDigits, digitsOf}
 use Rattle.digits.proofs.Reading.{number-is, none-is, digits-join, number-below}
 use Rattle.output.proofs.Output.{length-part}
 use Rattle.log.specs.Steps.{andCode, groups, admittedIn}
-use Rattle.session_fields.specs.Codes.{codeIn, codesFrom}
+use Rattle.session_fields.specs.Codes.{groupCode, codesFrom}
 
 -- digits in two parts
 in-parts : (k : ℕ) (s : List ℕ) → allDigits s ≡ (allDigits (take k s) && allDigits (drop k s))
@@ -29,25 +29,25 @@ module _ (k : ℕ) (s : List ℕ) (h : allDigits s ≡ true) where
   last-digits = and-right (allDigits (take k s)) (allDigits (drop k s)) (sym (in-parts k s) ∙ h)
 
 -- the code that five digits from an index on make, and that it fits
-pub code-part : (s : List ℕ) (at : ℕ) → codeIn (take (at + 5 - at) (drop at s)) ≡ codeIn (take 5 (drop at s))
+pub code-part : (s : List ℕ) (at : ℕ) → groupCode (take (at + 5 - at) (drop at s)) ≡ groupCode (take 5 (drop at s))
 code-part s at = let e : at + 5 - at ≡ 5 = omega arith in rw e
 
-pub code-below : (s : List ℕ) (at : ℕ) → at + 5 ≤ length s → allDigits s ≡ true → codeIn (take (at + 5 - at) (drop at s)) < 100000
+pub code-below : (s : List ℕ) (at : ℕ) → at + 5 ≤ length s → allDigits s ≡ true → groupCode (take (at + 5 - at) (drop at s)) < 100000
 code-below s at l h =
     let part = take (at + 5 - at) (drop at s) in
     let d : allDigits part ≡ true = first-digits (at + 5 - at) (drop at s) (last-digits at s h) in
     rw (number-is part d) (number-below 5 part (length-part s at 5 l) d)
 
 -- one code more at the end
-codes-suc : (n : ℕ) (s : List ℕ) → codesFrom (suc n) s ≡ codesFrom n s ++ (codeIn (take 5 (drop (5 * n) s)) ∷ [])
+codes-suc : (n : ℕ) (s : List ℕ) → codesFrom (suc n) s ≡ codesFrom n s ++ (groupCode (take 5 (drop (5 * n) s)) ∷ [])
 unfolding codesFrom
 codes-suc zero s = refl
 codes-suc (suc n) s =
     let e : 5 * suc n ≡ 5 + 5 * n = omega arith in
-    rw (e, ← drop-drop (5 * n) 5 s) (ap (λ (cs : List ℕ). codeIn (take 5 s) ∷ cs) (codes-suc n (drop 5 s)))
+    rw (e, ← drop-drop (5 * n) 5 s) (ap (λ (cs : List ℕ). groupCode (take 5 s) ∷ cs) (codes-suc n (drop 5 s)))
 
 -- a turn of the loop: the codes so far and the one stored
-pub codes-more : (s codes : List ℕ) (i c : ℕ) → i < length codes → take i codes ≡ codesFrom i s → c ≡ codeIn (take 5 (drop (5 * i) s)) → take (i + 1) (set codes i c) ≡ codesFrom (i + 1) s
+pub codes-more : (s codes : List ℕ) (i c : ℕ) → i < length codes → take i codes ≡ codesFrom i s → c ≡ groupCode (take 5 (drop (5 * i) s)) → take (i + 1) (set codes i c) ≡ codesFrom (i + 1) s
 codes-more s codes i c l t e = rw (add-one, take-suc-set codes i c l, t, e, codes-suc i s)
 
 -- the first of n codes
@@ -61,14 +61,14 @@ codes-kept (suc n) zero s =
     rw e
 codes-kept (suc n) (suc k) s =
     let e : min (suc n) (suc k) ≡ suc (min n k) = omega arith in
-    rw e (ap (λ (cs : List ℕ). codeIn (take 5 s) ∷ cs) (codes-kept n k (drop 5 s)))
+    rw e (ap (λ (cs : List ℕ). groupCode (take 5 s) ∷ cs) (codes-kept n k (drop 5 s)))
 
 -- groups of five digits are codes, where all of it is digits
 one-more : (n : ℕ) (s : List ℕ) → groups n (drop 5 s) ≡ cond (allDigits (drop 5 s)) (some (codesFrom n (drop 5 s))) none → groups (suc n) s ≡ cond (allDigits s) (some (codesFrom (suc n) s)) none
 unfolding groups codesFrom
 one-more n s rest = go (allDigits (take 5 s)) (allDigits (drop 5 s)) refl refl
   where
-    go : (a b : Bool) → allDigits (take 5 s) ≡ a → allDigits (drop 5 s) ≡ b → andCode (digitsOf (take 5 s)) (groups n (drop 5 s)) ≡ cond (allDigits s) (some (codeIn (take 5 s) ∷ codesFrom n (drop 5 s))) none
+    go : (a b : Bool) → allDigits (take 5 s) ≡ a → allDigits (drop 5 s) ≡ b → andCode (digitsOf (take 5 s)) (groups n (drop 5 s)) ≡ cond (allDigits s) (some (groupCode (take 5 s) ∷ codesFrom n (drop 5 s))) none
     go false b e f = rw (in-parts 5 s, e, none-is (take 5 s) e)
     go true false e f = rw (in-parts 5 s, e, number-is (take 5 s) e, rest, f)
     go true true e f = rw (in-parts 5 s, e, number-is (take 5 s) e, rest, f)

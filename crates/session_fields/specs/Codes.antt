@@ -5,9 +5,9 @@ use lib.ListN.{take, drop}
 use Rattle.digits.specs.Decimal.{digitsOf, numberIn}
 
 -- n codes of five digits each
-abbrev pub codeIn : List ℕ → ℕ
-codeIn s = numberIn (digitsOf s)
+abbrev pub groupCode : List ℕ → ℕ
+groupCode s = numberIn (digitsOf s)
 
 unfoldable pub codesFrom : ℕ → List ℕ → List ℕ
 codesFrom zero s = []
-codesFrom (suc n) s = codeIn (take 5 s) ∷ codesFrom n (drop 5 s)
+codesFrom (suc n) s = groupCode (take 5 s) ∷ codesFrom n (drop 5 s)

@@ -10,13 +10,13 @@ ghost use Prim.Native.Nat.{_+_, _*_, _≤_, min};
 ghost use lib.ListN.{length, take, drop};
 ghost use Rattle.digits.specs.Decimal.{allDigits};
 ghost use Rattle.log.specs.Steps.{dateOf, timeOf};
-ghost use Rattle.session_fields.specs.Codes.{codeIn, codesFrom};
+ghost use Rattle.session_fields.specs.Codes.{groupCode, codesFrom};
 
 // The code that five digits from an index on make.
 fn code_at(s: &[u8], at: usize) -> u32
     requires { ⌜ at + 5 ≤ length (now s) ⌝ }
     requires { ⌜ allDigits (now s) ≡ true ⌝ }
-    ensures { λ r. ⌜ r ≡ codeIn (take 5 (drop at (now (s .entry)))) ⌝ }
+    ensures { λ r. ⌜ r ≡ groupCode (take 5 (drop at (now (s .entry)))) ⌝ }
 {
     number_of(number(&s[at..at + 5])) as u32
 }
