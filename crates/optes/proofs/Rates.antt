@@ -9,6 +9,7 @@ use lib.Dec.{ltb}
 use lib.ListN.{length}
 use borrow.Author.Tests.{ltb-true, ltb-false, lt-ltb, le-ltb}
 use Rattle.laws.proofs.Tests.{and-left, and-right}
+use Rattle.addresses.specs.declared.Address.{Address}
 use Rattle.addresses.specs.Addresses.{addressFits}
 use Rattle.places.specs.declared.Rate.{Rate}
 use Rattle.places.specs.declared.Amount.{Amount}
@@ -16,7 +17,7 @@ use Rattle.places.specs.Bids.{fits, placesFit}
 use Rattle.envelope.specs.declared.application.Application.{Application}
 use Rattle.envelope.specs.Refusals.{firstHolding}
 use Rattle.envelope.specs.Application.{numbersFit, write}
-use Rattle.optes.specs.Interface.{rateOf, heldRate}
+use Rattle.optes.specs.Interface.{answerNumber, answered, rateOf, heldRate}
 
 held : (n : ℕ) → n < 4294967296 → heldRate n ≡ rateOf n
 unfolding heldRate
@@ -45,9 +46,12 @@ same-rates (r ∷ rs) (q ∷ qs) l h =
     let b = ltb-true r (10 ^ 8) (and-left (fits 8 r) (fits 15 (q .0)) t) in
     ap₂ (λ (x : Rate) (xs : List Rate). x ∷ xs) (held r (omega arith)) (same-rates rs qs (omega arith) (and-right (fits 8 r && fits 15 (q .0)) (placesFit (map rateOf rs) qs) h))
 
--- an application with other rates
+-- an application with other addresses and rates
+abbrev pub withParts : Application → Address → Address → List Rate → Application
+withParts a from to rates = record { sender = from; recipient = to; cro = a .cro; date = a .date; time = a .time; check = a .check; rates = rates; amounts = a .amounts }
+
 abbrev pub withRates : Application → List Rate → Application
-withRates a rates = record { sender = a .sender; recipient = a .recipient; cro = a .cro; date = a .date; time = a .time; check = a .check; rates = rates; amounts = a .amounts }
+withRates a rates = withParts a (a .sender) (a .recipient) rates
 
 -- where the numbers do not fit, writing is refused alike
 refused : (a b : Application) (kind identifier name space : List ℕ) → numbersFit a ≡ false → numbersFit b ≡ false → write a kind identifier name space ≡ write b kind identifier name space
@@ -68,7 +72,10 @@ same-write a rs kind identifier name space l = go (numbersFit (withRates a (map 
         let f = and-right (addressFits (a .sender) && addressFits (a .recipient) && fits 11 (a .cro) && fits 8 (a .date) && fits 6 (a .time) && fits 5 (a .check)) (placesFit (map rateOf rs) (a .amounts)) (unfold numbersFit in e) in
         ap (λ (rates : List Rate). write (withRates a rates) kind identifier name space) (same-rates rs (a .amounts) l f)
 
--- an application whose rates are held is written, or refused, as that with the rates themselves
-pub held-write : (a held : Application) (rs : List ℕ) (kind identifier name space : List ℕ) (answer : Option ℕ × List ℕ) → length rs ≤ length (a .amounts) → held ≡ withRates a (map heldRate rs)
-    → answer ≡ write held kind identifier name space → answer ≡ write (withRates a (map rateOf rs)) kind identifier name space
-held-write a held rs kind identifier name space answer l e w = w ∙ ap (λ (x : Application). write x kind identifier name space) e ∙ same-write a rs kind identifier name space l
+-- a host's call that writes held rates answers as with the rates themselves
+pub held-write : (a : Application) (rs kind identifier name space : List ℕ) {from to : Address} {rates : List Rate} {n : ℕ} {refusal : Option ℕ} {after : List ℕ}
+    → length rs ≤ length (a .amounts) → from ≡ a .sender → to ≡ a .recipient → rates ≡ map heldRate rs
+    → (refusal, after) ≡ write (withParts a from to rates) kind identifier name space → n ≡ answerNumber refusal
+    → (n, after) ≡ answered (write (withRates a (map rateOf rs)) kind identifier name space)
+held-write a rs kind identifier name space {after = after} l sender recipient rates written number =
+    ap (λ (n : ℕ). (n, after)) number ∙ ap answered (written ∙ (λ i. write (withParts a (sender i) (recipient i) (rates i)) kind identifier name space) ∙ same-write a rs kind identifier name space l)

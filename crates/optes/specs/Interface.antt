@@ -1,6 +1,6 @@
 -- What a host in C is answered (document 01, 'Replies and writing'). Assumes nothing.
 use mathlib.Core.Bool.{cond, _&&_}
-use mathlib.Core.List.{List}
+use mathlib.Core.List.{List, map}
 use mathlib.Core.Option.{Option, none, some}
 use Prim.Native.Nat.{ℕ}
 use lib.Dec.{eqb, ltb}
@@ -37,8 +37,14 @@ numbersRead m array = (readingRefused m, unlessRefused (readingRefused m) array 
 unfoldable pub addressFrom : ℕ → ℕ → ℕ → List ℕ → Address
 addressFrom code n branch text = cond (eqb n 5) (Code code) (cond (eqb n 14 && eqb (length text) 2) (Branch code branch (getD text 0 0) (getD text 1 0)) Malformed)
 
--- the application of two addresses, the numbers of the other digit fields, and ten places
-abbrev pub applicationOf : Address → Address → ℕ → ℕ → ℕ → ℕ → List Rate → List Amount → Application
+abbrev pub rateOf : ℕ → Rate
+rateOf n = record { 0 = n }
+
+abbrev pub amountOf : ℕ → Amount
+amountOf n = record { 0 = n }
+
+-- the application of two addresses, the numbers of the other digit fields, and the rates and amounts of the places
+abbrev pub applicationOf : Address → Address → ℕ → ℕ → ℕ → ℕ → List ℕ → List ℕ → Application
 applicationOf sender recipient cro date time check rates amounts =
     record {
       sender = sender;
@@ -47,15 +53,9 @@ applicationOf sender recipient cro date time check rates amounts =
       date = date;
       time = time;
       check = check;
-      rates = rates;
-      amounts = amounts;
+      rates = map rateOf rates;
+      amounts = map amountOf amounts;
     }
-
-abbrev pub rateOf : ℕ → Rate
-rateOf n = record { 0 = n }
-
-abbrev pub amountOf : ℕ → Amount
-amountOf n = record { 0 = n }
 
 -- a rate as the code holds it, in 32 bits
 unfoldable pub heldRate : ℕ → Rate

@@ -7,10 +7,10 @@ use envelope::application::write;
 use places::Amount;
 use places::Rate;
 ghost use mathlib.Core.Path.{_≡_};
-ghost use mathlib.Core.List.{[], _∷_, map};
+ghost use mathlib.Core.List.{[], _∷_};
 ghost use Rattle.addresses.specs.declared.Address.the-variants.{Code};
 ghost use Rattle.envelope.specs.Application.{write, writeRefusal};
-ghost use Rattle.optes.specs.Interface.{addressFrom, amountOf, answerNumber, answered, applicationOf, heldRate, rateOf};
+ghost use Rattle.optes.specs.Interface.{addressFrom, answerNumber, answered, applicationOf, heldRate};
 
 // A rate as far as 32 bits hold it. The widest that they hold is as much too wide for its field.
 fn rate(n: u64) -> Rate
@@ -21,19 +21,6 @@ fn rate(n: u64) -> Rate
     } else {
         Rate(4294967295)
     }
-}
-
-// Ten rates, each as far as 32 bits hold it.
-fn held_rates(rates: [u64; 10]) -> [Rate; 10]
-    ensures { λ r. ⌜ r ≡ map heldRate rates ⌝ }
-{
-    let mut held = [Rate(0); 10];
-    let mut i = 0;
-    while i < 10 {
-        held[i] = rate(rates[i]);
-        i += 1;
-    }
-    held
 }
 
 // The address of a length, which is that of one of the two forms; the short form has only the code.
@@ -47,31 +34,6 @@ fn address(code: u64, length: u64, branch: u64, text: &[u8]) -> Address
         return Address::Branch(code, branch, text[0], text[1]);
     }
     Address::Malformed
-}
-
-// The application of two addresses and numbers.
-fn application(
-    sender: Address,
-    recipient: Address,
-    cro: u64,
-    date: u64,
-    time: u64,
-    check: u64,
-    rates: [u64; 10],
-    amounts: [Amount; 10],
-) -> Application
-    ensures { λ r. ⌜ r ≡ applicationOf sender recipient cro date time check (map heldRate rates) amounts ⌝ }
-{
-    Application {
-        sender,
-        recipient,
-        cro,
-        date,
-        time,
-        check,
-        rates: held_rates(rates),
-        amounts,
-    }
 }
 
 // The number of an answer, 0 where nothing was refused.
@@ -120,21 +82,21 @@ pub extern "C" fn optes_6g1_write(
     space: &mut [u8],
 ) -> u32
     ensures { λ r. ⌜ (r, now (space .exit)) ≡ answered (write (applicationOf (Code sender) (Code recipient) cro date time check
-        (map rateOf (rate0 ∷ rate1 ∷ rate2 ∷ rate3 ∷ rate4 ∷ rate5 ∷ rate6 ∷ rate7 ∷ rate8 ∷ rate9 ∷ []))
-        (map amountOf (amount0 ∷ amount1 ∷ amount2 ∷ amount3 ∷ amount4 ∷ amount5 ∷ amount6 ∷ amount7 ∷ amount8 ∷ amount9 ∷ [])))
+        (rate0 ∷ rate1 ∷ rate2 ∷ rate3 ∷ rate4 ∷ rate5 ∷ rate6 ∷ rate7 ∷ rate8 ∷ rate9 ∷ [])
+        (amount0 ∷ amount1 ∷ amount2 ∷ amount3 ∷ amount4 ∷ amount5 ∷ amount6 ∷ amount7 ∷ amount8 ∷ amount9 ∷ []))
         (now (kind .entry)) (now (identifier .entry)) (now (name .entry)) (now (space .entry))) ⌝ }
 {
     let rates = [
-        rate0,
-        rate1,
-        rate2,
-        rate3,
-        rate4,
-        rate5,
-        rate6,
-        rate7,
-        rate8,
-        rate9,
+        rate(rate0),
+        rate(rate1),
+        rate(rate2),
+        rate(rate3),
+        rate(rate4),
+        rate(rate5),
+        rate(rate6),
+        rate(rate7),
+        rate(rate8),
+        rate(rate9),
     ];
     let amounts = [
         Amount(amount0),
@@ -148,9 +110,16 @@ pub extern "C" fn optes_6g1_write(
         Amount(amount8),
         Amount(amount9),
     ];
-    let from = Address::Code(sender);
-    let to = Address::Code(recipient);
-    let a = application(from, to, cro, date, time, check, rates, amounts);
+    let a = Application {
+        sender: Address::Code(sender),
+        recipient: Address::Code(recipient),
+        cro,
+        date,
+        time,
+        check,
+        rates,
+        amounts,
+    };
     number(write(a, kind, identifier, name, space))
 }
 
@@ -199,21 +168,28 @@ pub extern "C" fn optes_6g1_write_addresses(
         (addressFrom sender «sender_length» «sender_branch» (now («sender_text» .entry)))
         (addressFrom recipient «recipient_length» «recipient_branch» (now («recipient_text» .entry)))
         cro date time check
-        (map rateOf (rate0 ∷ rate1 ∷ rate2 ∷ rate3 ∷ rate4 ∷ rate5 ∷ rate6 ∷ rate7 ∷ rate8 ∷ rate9 ∷ []))
-        (map amountOf (amount0 ∷ amount1 ∷ amount2 ∷ amount3 ∷ amount4 ∷ amount5 ∷ amount6 ∷ amount7 ∷ amount8 ∷ amount9 ∷ [])))
+        (rate0 ∷ rate1 ∷ rate2 ∷ rate3 ∷ rate4 ∷ rate5 ∷ rate6 ∷ rate7 ∷ rate8 ∷ rate9 ∷ [])
+        (amount0 ∷ amount1 ∷ amount2 ∷ amount3 ∷ amount4 ∷ amount5 ∷ amount6 ∷ amount7 ∷ amount8 ∷ amount9 ∷ []))
         (now (kind .entry)) (now (identifier .entry)) (now (name .entry)) (now (space .entry))) ⌝ }
 {
+    let from = address(sender, sender_length, sender_branch, sender_text);
+    let to = address(
+        recipient,
+        recipient_length,
+        recipient_branch,
+        recipient_text,
+    );
     let rates = [
-        rate0,
-        rate1,
-        rate2,
-        rate3,
-        rate4,
-        rate5,
-        rate6,
-        rate7,
-        rate8,
-        rate9,
+        rate(rate0),
+        rate(rate1),
+        rate(rate2),
+        rate(rate3),
+        rate(rate4),
+        rate(rate5),
+        rate(rate6),
+        rate(rate7),
+        rate(rate8),
+        rate(rate9),
     ];
     let amounts = [
         Amount(amount0),
@@ -227,13 +203,15 @@ pub extern "C" fn optes_6g1_write_addresses(
         Amount(amount8),
         Amount(amount9),
     ];
-    let from = address(sender, sender_length, sender_branch, sender_text);
-    let to = address(
-        recipient,
-        recipient_length,
-        recipient_branch,
-        recipient_text,
-    );
-    let a = application(from, to, cro, date, time, check, rates, amounts);
+    let a = Application {
+        sender: from,
+        recipient: to,
+        cro,
+        date,
+        time,
+        check,
+        rates,
+        amounts,
+    };
     number(write(a, kind, identifier, name, space))
 }

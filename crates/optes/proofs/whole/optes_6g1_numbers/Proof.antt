@@ -47,7 +47,7 @@ returns-2 : tie.Need-returns-2
 returns-2 c =
     let a = c .before .before .before .before .before .before .before .before .before .before .before .before .before .args in
     let numbers = now (a .numbers) in
-    let all = numbers-only (now (a .m)) (replicate 51 0) refl (c .before .before .before .before .before .before .put-all .ensures) in
+    let all = numbers-only (now (a .m)) (replicate 51 1) refl (c .before .before .before .before .before .before .put-all .ensures) in
     ap (λ (l : List ℕ). (0, l)) (c .before .before .put-first .ensures ∙ ap (λ (l : List ℕ). inArray l numbers) all) ∙ sym (ap answered (numbers-given (now (a .m)) numbers (readable-there (c .before .before .before .before .before .before .before .before .before))))
 
 put-all-requires-2 : tie.Need-put-all-requires-2
