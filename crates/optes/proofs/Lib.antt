@@ -1,2 +1,3 @@
+pub mod Addresses
 pub mod Interface
 pub mod Rates
