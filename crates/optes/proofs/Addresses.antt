@@ -2,14 +2,14 @@
 use mathlib.Core.Path.{_≡_, refl, sym, ap, ap₂, _∙_}
 use mathlib.Core.Logic.{_⊎_, inl, inr}
 use mathlib.Core.Bool.{Bool, true, false, _&&_, false≢true}
-use mathlib.Core.List.{List, [], _∷_, _++_, append-assoc, append-nil}
-use mathlib.Core.Option.{none, some}
-use Prim.Native.Nat.{ℕ, _+_, _-_, _≤_, _<_}
+use mathlib.Core.List.{List, _++_, append-assoc, append-nil}
+use mathlib.Core.Option.{some}
+use Prim.Native.Nat.{ℕ, _+_, _-_, _≤_}
 use native.Mathlib.Omega.{arith}
 use lib.Dec.{eqb, ltb}
 use lib.ListN.{length, take, drop, length-append, length-drop, take-append-drop, drop-of-length-le}
 use lib.Seq.{drop-at, length-take-le}
-use borrow.Author.Tests.{ltb-true, ltb-false, lt-ltb, le-ltb}
+use borrow.Author.Tests.{ltb-true, ltb-false}
 use Rattle.laws.proofs.Tests.{and-left, and-right}
 use Rattle.output.specs.Output.{overlay, Wrote}
 use Rattle.output.proofs.Output.{covered, from-start, part-back}
@@ -21,10 +21,10 @@ use Rattle.addresses.specs.Addresses.{addressText, addressLength, addressFits}
 use Rattle.addresses.proofs.ReturnTrip.{length-address}
 use Rattle.places.specs.Bids.{fits, placesFit, placesText}
 use Rattle.envelope.specs.declared.application.Application.{Application}
-use Rattle.envelope.specs.Refusals.{firstHolding}
 use Rattle.envelope.specs.Application.{layout6G1, numbersFit, textsFit, written, write}
-use Rattle.envelope.proofs.Writing.{address-field, length-written, length-kind, length-identifier, length-name}
+use Rattle.envelope.proofs.Writing.{length-written, length-kind, length-identifier, length-name}
 use Rattle.optes.specs.Interface.{addressFrom, answered, endIn}
+use Rattle.optes.proofs.Answers.{unfit-write, full-write, made-write}
 
 -- the code of an address that fits, fits
 pub code-fits : (code n branch : ℕ) (text : List ℕ) (s : Address) → s ≡ addressFrom code n branch text → addressFits s ≡ true → ltb code 100000 ≡ true
@@ -39,25 +39,11 @@ code-fits code n branch text s e h = go (eqb n 5) refl (eqb n 14 && eqb (length 
     go false p true q = and-left (ltb code 100000) (ltb branch 100000) (rw (p, q) at fit)
     go false p false q = absurd (false≢true (rw (p, q) at fit))
 
--- what writing answers
-module _ (a : Application) (kind identifier name space : List ℕ) where
-  unfit-write : (numbersFit a && textsFit kind identifier name) ≡ false → write a kind identifier name space ≡ (some 17, space)
-  unfolding write firstHolding
-  unfit-write h = rw h
-
-  full-write : (numbersFit a && textsFit kind identifier name) ≡ true → length space < length (written a kind identifier name) → write a kind identifier name space ≡ (some 18, space)
-  unfolding write firstHolding
-  full-write h l = rw (h, lt-ltb (length space) (length (written a kind identifier name)) l)
-
-  made-write : (numbersFit a && textsFit kind identifier name) ≡ true → length (written a kind identifier name) ≤ length space → write a kind identifier name space ≡ (none, written a kind identifier name ++ drop (length (written a kind identifier name)) space)
-  unfolding write firstHolding
-  made-write h l = rw (h, le-ltb (length space) (length (written a kind identifier name)) l)
-
-  -- an address that does not fit is refused
-  pub address-refused : (addressFits (a .sender) && addressFits (a .recipient)) ≡ false → (17, space) ≡ answered (write a kind identifier name space)
-  address-refused h =
-      let n : numbersFit a ≡ false = unfold numbersFit in ap (λ (t : Bool). t && fits 11 (a .cro) && fits 8 (a .date) && fits 6 (a .time) && fits 5 (a .check) && placesFit (a .rates) (a .amounts)) h in
-      sym (ap answered (unfit-write (ap (λ (t : Bool). t && textsFit kind identifier name) n)))
+-- an address that does not fit is refused
+pub address-refused : (a : Application) (kind identifier name space : List ℕ) → (addressFits (a .sender) && addressFits (a .recipient)) ≡ false → (17, space) ≡ answered (write a kind identifier name space)
+address-refused a kind identifier name space h =
+    let n : numbersFit a ≡ false = unfold numbersFit in ap (λ (t : Bool). t && fits 11 (a .cro) && fits 8 (a .date) && fits 6 (a .time) && fits 5 (a .check) && placesFit (a .rates) (a .amounts)) h in
+    sym (ap answered (unfit-write a kind identifier name space (ap (λ (t : Bool). t && textsFit kind identifier name) n)))
 
 -- the application with codes for addresses
 abbrev pub withCodes : Application → ℕ → ℕ → Application
@@ -225,22 +211,36 @@ module _ (a : Application) (x y : ℕ) (kind identifier name space : List ℕ) (
   pub three-within : answer ≡ 0 → 9 + length kind + addressLength (a .sender) + addressLength (a .recipient) ≤ length space
   three-within z = let m = made z in omega (arith, m .whole, m .room, length-kind kind identifier name (texts-fit (m .fit)))
 
-  -- and with them over the start, the message is there
-  pub all-written : (final : List ℕ) (e : ℕ) → answer ≡ 0 → Wrote back 0 (firstThree kind (a .sender) (a .recipient)) final e → (0, final) ≡ answered (write a kind identifier name space)
-  all-written final e z w =
-      let m = made z in
-      let h = m .fit in
-      let k = length-kind kind identifier name (texts-fit h) in
+  -- the space as the call left it
+  lent-back : Made a x y kind identifier name space end answer after → back ≡ overlay space at (written (withCodes a x y) kind identifier name)
+  lent-back m =
+      let t = written (withCodes a x y) kind identifier name in
+      let i = c .at-is in
+      let j = m .whole in
+      let o = at-least in
+      let s : end - at ≡ at + 339 - at = omega arith in
+      ap₂ (λ (u : List ℕ) (b : ℕ). take at space ++ (u ++ drop b (drop at space))) (m .message) s ∙ part-back space at 339 t (short (m .fit))
+
+  over-start : Made a x y kind identifier name space end answer after → overlay (overlay space at (written (withCodes a x y) kind identifier name)) 0 (firstThree kind (a .sender) (a .recipient)) ≡ overlay space 0 (written a kind identifier name)
+  over-start m =
+      let k = length-kind kind identifier name (texts-fit (m .fit)) in
       let f = firstThree kind (a .sender) (a .recipient) in
       let t = written (withCodes a x y) kind identifier name in
       let i = c .at-is in
       let j = m .whole in
       let o = at-least in
-      let q = short h in
+      let q = short (m .fit) in
       let v = length-three kind (a .sender) (a .recipient) k in
-      let s : end - at ≡ at + 339 - at = omega arith in
-      let p : back ≡ overlay space at t = ap₂ (λ (u : List ℕ) (b : ℕ). take at space ++ (u ++ drop b (drop at space))) (m .message) s ∙ part-back space at 339 t q in
+      let z : at ≡ 0 + at = omega arith in
       let d : length f - at ≡ 22 = omega arith in
-      let y′ : overlay space at t ≡ overlay space (0 + at) t = ap (λ (b : ℕ). overlay space b t) (let g : at ≡ 0 + at = omega arith in g) in
-      let l : final ≡ written a kind identifier name ++ drop (length (written a kind identifier name)) space = w .bytes ∙ ap (λ (u : List ℕ). overlay u 0 f) (p ∙ y′) ∙ covered space 0 at f t (omega arith) (omega arith) (omega (arith, m .room)) ∙ ap (λ (b : ℕ). overlay space 0 (f ++ drop b t)) d ∙ ap (overlay space 0) (same-end a x y kind identifier name k) ∙ from-start space (written a kind identifier name) in
-      ap (λ (u : List ℕ). (0, u)) l ∙ sym (ap answered (made-write a kind identifier name space h (omega (arith, long h, m .room))))
+      ap (λ (b : ℕ). overlay (overlay space b t) 0 f) z
+      ∙ covered space 0 at f t (omega arith) (omega arith) (omega (arith, m .room))
+      ∙ ap (λ (b : ℕ). overlay space 0 (f ++ drop b t)) d
+      ∙ ap (overlay space 0) (same-end a x y kind identifier name k)
+
+  -- and with them over the start, the message is there
+  pub all-written : (final : List ℕ) (e : ℕ) → answer ≡ 0 → Wrote back 0 (firstThree kind (a .sender) (a .recipient)) final e → (0, final) ≡ answered (write a kind identifier name space)
+  all-written final e z w =
+      let m = made z in
+      let l : final ≡ written a kind identifier name ++ drop (length (written a kind identifier name)) space = w .bytes ∙ ap (λ (u : List ℕ). overlay u 0 (firstThree kind (a .sender) (a .recipient))) (lent-back m) ∙ over-start m ∙ from-start space (written a kind identifier name) in
+      ap (λ (u : List ℕ). (0, u)) l ∙ sym (ap answered (made-write a kind identifier name space (m .fit) (omega (arith, long (m .fit), m .whole, m .room))))

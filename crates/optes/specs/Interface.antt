@@ -61,7 +61,3 @@ applicationOf sender recipient cro date time check rates amounts =
 -- '18', for which 'writing needs the length of the message it writes': the index past a 6G1 with these addresses, 0 where that is past the space
 unfoldable pub endIn : ℕ → Address → Address → ℕ
 endIn room from to = cond (ltb room (329 + addressLength from + addressLength to)) 0 (329 + addressLength from + addressLength to)
-
--- a rate as the code holds it, in 32 bits
-unfoldable pub heldRate : ℕ → Rate
-heldRate n = cond (ltb n 4294967296) (rateOf n) (rateOf 4294967295)

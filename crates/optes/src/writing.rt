@@ -14,24 +14,20 @@ use places::Rate;
 use words::internal::put_digits;
 ghost use mathlib.Core.Path.{_≡_};
 ghost use mathlib.Core.List.{[], _∷_, _++_};
-ghost use Prim.Native.Nat.{_+_, _-_, _≤_};
+ghost use Prim.Native.Nat.{_+_, _-_, _%_, _≤_};
 ghost use lib.ListN.{length};
 ghost use Rattle.output.specs.Output.{Wrote};
 ghost use Rattle.layout.specs.Fields.{field};
 ghost use Rattle.addresses.specs.declared.Address.the-variants.{Code};
 ghost use Rattle.addresses.specs.Addresses.{addressText, addressLength};
 ghost use Rattle.envelope.specs.Application.{write, writeRefusal};
-ghost use Rattle.optes.specs.Interface.{addressFrom, answerNumber, answered, applicationOf, endIn, heldRate};
+ghost use Rattle.optes.specs.Interface.{addressFrom, answerNumber, answered, applicationOf, endIn, rateOf};
 
-// A rate as far as 32 bits hold it. The widest that they hold is as much too wide for its field.
+// What 32 bits hold of a rate.
 fn rate(n: u64) -> Rate
-    ensures { λ r. ⌜ r ≡ heldRate n ⌝ }
+    ensures { λ r. ⌜ r ≡ rateOf (n % 4294967296) ⌝ }
 {
-    if n < 4294967296 {
-        Rate(n as u32)
-    } else {
-        Rate(4294967295)
-    }
+    Rate((n % 4294967296) as u32)
 }
 
 // The address of a length, which is that of one of the two forms; the short form has only the code.
@@ -58,7 +54,8 @@ fn number(a: WriteAnswer) -> u32
     }
 }
 
-// Writes a 6G1 at the start of the space: 0, or 17 or 18 with the space as it was.
+// Writes a 6G1 at the start of the space: 0, or 17 or 18 with the space as it was. A rate of over 32
+// bits is too wide for its field; all are tested at once, so that the compiler makes it one test.
 #[no_mangle]
 pub extern "C" fn optes_6g1_write(
     sender: u64,
@@ -97,6 +94,18 @@ pub extern "C" fn optes_6g1_write(
         (amount0 ∷ amount1 ∷ amount2 ∷ amount3 ∷ amount4 ∷ amount5 ∷ amount6 ∷ amount7 ∷ amount8 ∷ amount9 ∷ []))
         (now (kind .entry)) (now (identifier .entry)) (now (name .entry)) (now (space .entry))) ⌝ }
 {
+    if !((rate0 < 4294967296)
+        & (rate1 < 4294967296)
+        & (rate2 < 4294967296)
+        & (rate3 < 4294967296)
+        & (rate4 < 4294967296)
+        & (rate5 < 4294967296)
+        & (rate6 < 4294967296)
+        & (rate7 < 4294967296)
+        & (rate8 < 4294967296)
+        & (rate9 < 4294967296)) {
+        return 17;
+    }
     let rates = [
         rate(rate0),
         rate(rate1),
@@ -173,18 +182,20 @@ fn end_in(room: usize, from: Address, to: Address) -> usize
     end
 }
 
-// The index of the last 339 bytes before another, of which there may be fewer.
+// Where the last 339 bytes before an index start, or all where they are fewer.
 fn last_339(end: usize) -> usize
     ensures { λ r. ⌜ r ≡ end - 339 ⌝ }
 {
-    if end < 339 {
-        return 0;
+    if 339 <= end {
+        return end - 339;
     }
-    end - 339
+    0
 }
 
 // Writes a 6G1 whose addresses have length 5 or 14, as optes_6g1_write does: another length, or a long
-// address whose text is not two characters, is answered with 17.
+// address whose text is not two characters, is answered with 17. From CRO on all forms are the same, so
+// that call writes up to the end of the message, and the fields before go over its start: with one
+// caller of write the compiler puts it in its place.
 #[no_mangle]
 pub extern "C" fn optes_6g1_write_addresses(
     sender: u64,
