@@ -1,2 +1,4 @@
+pub mod Addresses
+pub mod Answers
 pub mod Interface
 pub mod Rates

@@ -1,81 +1,73 @@
--- A rate held in 32 bits is written, or refused, as the rate itself. Assumes nothing.
+-- Rates within 32 bits are held whole, and a wider one is refused. Assumes nothing.
 use mathlib.Core.Path.{_≡_, refl, sym, ap, ap₂, _∙_}
-use mathlib.Core.Bool.{Bool, true, false, cond, _&&_}
+use mathlib.Core.Bool.{Bool, true, false, _&&_, false≢true}
 use mathlib.Core.List.{List, [], _∷_, map}
 use mathlib.Core.Option.{Option}
-use Prim.Native.Nat.{ℕ, _≤_, _<_, _^_}
+use Prim.Native.Nat.{ℕ, _≤_, _%_, _^_}
 use native.Mathlib.Omega.{arith}
 use lib.Dec.{ltb}
 use lib.ListN.{length}
-use borrow.Author.Tests.{ltb-true, ltb-false, lt-ltb, le-ltb}
+use borrow.Author.Tests.{ltb-true, lt-ltb}
 use Rattle.laws.proofs.Tests.{and-left, and-right}
-use Rattle.addresses.specs.declared.Address.{Address}
 use Rattle.addresses.specs.Addresses.{addressFits}
 use Rattle.places.specs.declared.Rate.{Rate}
 use Rattle.places.specs.declared.Amount.{Amount}
 use Rattle.places.specs.Bids.{fits, placesFit}
 use Rattle.envelope.specs.declared.application.Application.{Application}
-use Rattle.envelope.specs.Refusals.{firstHolding}
-use Rattle.envelope.specs.Application.{numbersFit, write}
-use Rattle.optes.specs.Interface.{answerNumber, answered, rateOf, heldRate}
+use Rattle.envelope.specs.Application.{numbersFit, textsFit, write}
+use Rattle.optes.specs.Interface.{answerNumber, answered, rateOf}
+use Rattle.optes.proofs.Answers.{unfit-write}
 
-held : (n : ℕ) → n < 4294967296 → heldRate n ≡ rateOf n
-unfolding heldRate
-held n h = rw (lt-ltb n 4294967296 h)
+-- what 32 bits hold of a rate
+abbrev pub lowRate : ℕ → Rate
+lowRate n = rateOf (n % 4294967296)
 
-held-fits : (n : ℕ) → fits 8 (heldRate n .0) ≡ fits 8 n
-unfolding heldRate
-held-fits n = go (ltb n 4294967296) refl
-  where
-    go : (t : Bool) → ltb n 4294967296 ≡ t → fits 8 (cond (ltb n 4294967296) (rateOf n) (rateOf 4294967295) .0) ≡ fits 8 n
-    go true e = rw e
-    go false e = rw e (sym (le-ltb n (10 ^ 8) (let h = ltb-false n 4294967296 e in omega arith)))
+-- whether rates are within 32 bits, tested one after the other
+unfoldable pub within : Bool → List ℕ → Bool
+within b [] = b
+within b (r ∷ rs) = within (b && ltb r 4294967296) rs
 
-held-places : (rs : List ℕ) (qs : List Amount) → placesFit (map heldRate rs) qs ≡ placesFit (map rateOf rs) qs
-unfolding placesFit
-held-places [] qs = refl
-held-places (r ∷ rs) [] = refl
-held-places (r ∷ rs) (q ∷ qs) = ap₂ (λ (x y : Bool). x && fits 15 (q .0) && y) (held-fits r) (held-places rs qs)
+within-first : (b : Bool) (rs : List ℕ) → within b rs ≡ true → b ≡ true
+unfolding within
+within-first b [] h = h
+within-first b (r ∷ rs) h = and-left b (ltb r 4294967296) (within-first (b && ltb r 4294967296) rs h)
 
-same-rates : (rs : List ℕ) (qs : List Amount) → length rs ≤ length qs → placesFit (map rateOf rs) qs ≡ true → map heldRate rs ≡ map rateOf rs
-unfolding placesFit
-same-rates [] qs l h = refl
-same-rates (r ∷ rs) [] l h = absurd (let z : ⊥ = omega arith in z)
-same-rates (r ∷ rs) (q ∷ qs) l h =
-    let t = and-left (fits 8 r && fits 15 (q .0)) (placesFit (map rateOf rs) qs) h in
-    let b = ltb-true r (10 ^ 8) (and-left (fits 8 r) (fits 15 (q .0)) t) in
-    ap₂ (λ (x : Rate) (xs : List Rate). x ∷ xs) (held r (omega arith)) (same-rates rs qs (omega arith) (and-right (fits 8 r && fits 15 (q .0)) (placesFit (map rateOf rs) qs) h))
+same-rates : (b : Bool) (rs : List ℕ) → within b rs ≡ true → map lowRate rs ≡ map rateOf rs
+unfolding within
+same-rates b [] h = refl
+same-rates b (r ∷ rs) h =
+    let l = ltb-true r 4294967296 (and-right b (ltb r 4294967296) (within-first (b && ltb r 4294967296) rs h)) in
+    ap₂ (λ (x : ℕ) (xs : List Rate). rateOf x ∷ xs) (let e : r % 4294967296 ≡ r = omega arith in e) (same-rates (b && ltb r 4294967296) rs h)
 
--- an application with other addresses and rates
-abbrev pub withParts : Application → Address → Address → List Rate → Application
-withParts a from to rates = record { sender = from; recipient = to; cro = a .cro; date = a .date; time = a .time; check = a .check; rates = rates; amounts = a .amounts }
+-- rates that fit their field are within 32 bits
+fit-within : (b : Bool) (rs : List ℕ) (qs : List Amount) → length rs ≤ length qs → b ≡ true → placesFit (map rateOf rs) qs ≡ true → within b rs ≡ true
+unfolding within placesFit
+fit-within b [] qs l t h = t
+fit-within b (r ∷ rs) [] l t h = absurd (let z : ⊥ = omega arith in z)
+fit-within b (r ∷ rs) (q ∷ qs) l t h =
+    let f = and-left (fits 8 r && fits 15 (q .0)) (placesFit (map rateOf rs) qs) h in
+    let n = ltb-true r (10 ^ 8) (and-left (fits 8 r) (fits 15 (q .0)) f) in
+    fit-within (b && ltb r 4294967296) rs qs (omega arith) (ap₂ (λ (x y : Bool). x && y) t (lt-ltb r 4294967296 (omega arith))) (and-right (fits 8 r && fits 15 (q .0)) (placesFit (map rateOf rs) qs) h)
 
+-- an application with other rates
 abbrev pub withRates : Application → List Rate → Application
-withRates a rates = withParts a (a .sender) (a .recipient) rates
+withRates a rates = record { sender = a .sender; recipient = a .recipient; cro = a .cro; date = a .date; time = a .time; check = a .check; rates = rates; amounts = a .amounts }
 
--- where the numbers do not fit, writing is refused alike
-refused : (a b : Application) (kind identifier name space : List ℕ) → numbersFit a ≡ false → numbersFit b ≡ false → write a kind identifier name space ≡ write b kind identifier name space
-unfolding write firstHolding
-refused a b kind identifier name space p q = rw (p, q)
+module _ (a : Application) (rs kind identifier name space : List ℕ) where
+  abbrev b : Application
+  b = withRates a (map rateOf rs)
 
--- and where they do, the rates are the same
-same-write : (a : Application) (rs : List ℕ) (kind identifier name space : List ℕ) → length rs ≤ length (a .amounts)
-    → write (withRates a (map heldRate rs)) kind identifier name space ≡ write (withRates a (map rateOf rs)) kind identifier name space
-same-write a rs kind identifier name space l = go (numbersFit (withRates a (map rateOf rs))) refl
-  where
-    same : numbersFit (withRates a (map heldRate rs)) ≡ numbersFit (withRates a (map rateOf rs))
-    same = unfold numbersFit in ap (λ (t : Bool). addressFits (a .sender) && addressFits (a .recipient) && fits 11 (a .cro) && fits 8 (a .date) && fits 6 (a .time) && fits 5 (a .check) && t) (held-places rs (a .amounts))
+  -- a rate that is wider is refused
+  pub wide-refused : length rs ≤ length (a .amounts) → within true rs ≡ false → (17, space) ≡ answered (write b kind identifier name space)
+  wide-refused l w = go (numbersFit b) refl
+    where
+      go : (t : Bool) → numbersFit b ≡ t → (17, space) ≡ answered (write b kind identifier name space)
+      go false e = sym (ap answered (unfit-write b kind identifier name space (ap (λ (t : Bool). t && textsFit kind identifier name) e)))
+      go true e =
+          let f = and-right (addressFits (a .sender) && addressFits (a .recipient) && fits 11 (a .cro) && fits 8 (a .date) && fits 6 (a .time) && fits 5 (a .check)) (placesFit (map rateOf rs) (a .amounts)) (unfold numbersFit in e) in
+          absurd (false≢true (sym w ∙ fit-within true rs (a .amounts) l refl f))
 
-    go : (t : Bool) → numbersFit (withRates a (map rateOf rs)) ≡ t → write (withRates a (map heldRate rs)) kind identifier name space ≡ write (withRates a (map rateOf rs)) kind identifier name space
-    go false e = refused (withRates a (map heldRate rs)) (withRates a (map rateOf rs)) kind identifier name space (same ∙ e) e
-    go true e =
-        let f = and-right (addressFits (a .sender) && addressFits (a .recipient) && fits 11 (a .cro) && fits 8 (a .date) && fits 6 (a .time) && fits 5 (a .check)) (placesFit (map rateOf rs) (a .amounts)) (unfold numbersFit in e) in
-        ap (λ (rates : List Rate). write (withRates a rates) kind identifier name space) (same-rates rs (a .amounts) l f)
-
--- a host's call that writes held rates answers as with the rates themselves
-pub held-write : (a : Application) (rs kind identifier name space : List ℕ) {from to : Address} {rates : List Rate} {n : ℕ} {refusal : Option ℕ} {after : List ℕ}
-    → length rs ≤ length (a .amounts) → from ≡ a .sender → to ≡ a .recipient → rates ≡ map heldRate rs
-    → (refusal, after) ≡ write (withParts a from to rates) kind identifier name space → n ≡ answerNumber refusal
-    → (n, after) ≡ answered (write (withRates a (map rateOf rs)) kind identifier name space)
-held-write a rs kind identifier name space {after = after} l sender recipient rates written number =
-    ap (λ (n : ℕ). (n, after)) number ∙ ap answered (written ∙ (λ i. write (withParts a (sender i) (recipient i) (rates i)) kind identifier name space) ∙ same-write a rs kind identifier name space l)
+  -- and where none is, what is answered for the rates that are held is answered for the rates themselves
+  pub held-write : {rates : List Rate} {n : ℕ} {refusal : Option ℕ} {after : List ℕ} → within true rs ≡ true → rates ≡ map lowRate rs → (refusal, after) ≡ write (withRates a rates) kind identifier name space → n ≡ answerNumber refusal → (n, after) ≡ answered (write b kind identifier name space)
+  held-write {after = after} w rates written number =
+      ap (λ (n : ℕ). (n, after)) number ∙ ap answered (written ∙ ap (λ (rates : List Rate). write (withRates a rates) kind identifier name space) (rates ∙ same-rates true rs w))
