@@ -4,7 +4,7 @@ use mathlib.Core.Bool.{Bool, true, false, cond, not, _&&_}
 use mathlib.Core.List.{List, [], _∷_, _++_}
 use mathlib.Core.Option.{Option, none, some}
 use Prim.Native.Nat.{ℕ, zero, suc, _+_, _-_, _/_, _%_}
-use lib.Dec.{eqb, ltb}
+use lib.Dec.{eqb, leb, ltb}
 use lib.ListN.{length, take}
 use Rattle.texts.specs.Texts.{ascii}
 use Rattle.digits.specs.Decimal.{digits}
@@ -79,12 +79,18 @@ fieldText tag n =
     (cond (eqb tag 0xA5) (lengthText tag n (ascii ", not 0"))
     (tagText tag)))))
 
--- why the log ended before what is left, which is not empty: 'A field is a one-byte tag, a two-byte length .. and that many bytes', and where it is not there whole, that is why
+-- 'A0 admitted codes ..; A1 announcement; A2 reception ..; A3 closing ..; A4 revocation; A5 allotment': whether a tag is one of these
+abbrev pub isTag : ℕ → Bool
+isTag tag = leb 0xA0 tag && leb tag 0xA5
+
+-- why the log ended before what is left, which is not empty: 'another tag' first, since then nothing else is known of the bytes; 'A field is a one-byte tag, a two-byte length .. and that many bytes', and where it is not there whole, that is why
 unfoldable pub whyText : List ℕ → List ℕ
 whyText s =
-    cond (ltb (length s) 3) (ascii "the tag and length of a field are cut off")
+    cond (isTag (tagOf s))
+    (cond (ltb (length s) 3) (ascii "the length of a field is cut off")
     (cond (ltb (length s) (3 + lengthAt s)) (missingText (3 + lengthAt s - length s))
-    (fieldText (tagOf s) (lengthAt s)))
+    (fieldText (tagOf s) (lengthAt s))))
+    (tagText (tagOf s))
 
 -- the line for an offset in the session and what is left from there on
 unfoldable pub endingText : ℕ → List ℕ → List ℕ

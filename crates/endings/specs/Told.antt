@@ -30,11 +30,14 @@ endings =
     ([], [])
     ∷ (field 0xA0 (ascii "9000190002") ++ field 0xA1 [] ++ field 0xA2 (ascii "12032012103000") ++ field 0xA3 (ascii "12032012110001") ++ field 0xA4 [] ++ field 0xA5 [], [])
     -- cut off
-    ∷ (0xA2 ∷ [], told (ascii "0: the tag and length of a field are cut off"))
-    ∷ (field 0xA5 [] ++ (0xA2 ∷ 0 ∷ []), told (ascii "3: the tag and length of a field are cut off"))
+    ∷ (0xA2 ∷ [], told (ascii "0: the length of a field is cut off"))
+    ∷ (field 0xA5 [] ++ (0xA2 ∷ 0 ∷ []), told (ascii "3: the length of a field is cut off"))
     ∷ (field 0xA0 (ascii "90001") ++ (0xA2 ∷ 0 ∷ 14 ∷ 49 ∷ []), told (ascii "8: 13 bytes of a field are missing"))
     ∷ (0xA3 ∷ 1 ∷ 0 ∷ [], told (ascii "0: 256 bytes of a field are missing"))
-    ∷ (0xFF ∷ 0 ∷ 1 ∷ [], told (ascii "0: 1 byte of a field is missing"))
+    ∷ (0xA5 ∷ 0 ∷ 1 ∷ [], told (ascii "0: 1 byte of a field is missing"))
+    -- of another tag, whole or not
+    ∷ (0xFF ∷ [], told (ascii "0: tag FF is none of a session"))
+    ∷ (field 0xA5 [] ++ (0x9F ∷ 0 ∷ 1 ∷ []), told (ascii "3: tag 9F is none of a session"))
     -- fields that end the log, whatever follows them
     ∷ (field 0xA0 (ascii "9000A") ++ field 0xA5 [], told (ascii "0: field A0 is not groups of five digits"))
     ∷ (field 0xA0 (ascii "900010"), told (ascii "0: field A0 is not groups of five digits"))

@@ -4,10 +4,11 @@ use crate::text::put_hex;
 use layout::internal::length_at;
 use output::internal::put;
 use output::internal::put_byte;
+ghost use mathlib.Core.Path.{_≡_};
 ghost use Prim.Native.Nat.{_+_, _≤_, _<_};
 ghost use lib.ListN.{length};
 ghost use Rattle.output.specs.Output.{Wrote};
-ghost use Rattle.endings.specs.Endings.{missingText, lengthText, tagText, fieldText, whyText, endingText};
+ghost use Rattle.endings.specs.Endings.{missingText, lengthText, tagText, fieldText, isTag, whyText, endingText};
 
 // Writes that so many bytes of a field are missing.
 fn put_missing(space: &mut [u8], at: usize, n: u64) -> usize
@@ -58,13 +59,23 @@ fn put_field_why(space: &mut [u8], at: usize, tag: u8, n: u64) -> usize
     }
 }
 
-// Writes why the log ended before what is left.
+// Whether a tag is one of a session.
+fn is_tag(tag: u8) -> bool
+    ensures { λ r. ⌜ r ≡ isTag tag ⌝ }
+{
+    (0xA0 <= tag) & (tag <= 0xA5)
+}
+
+// Writes why the log ended before what is left, of which the first byte is a tag.
 fn put_why(space: &mut [u8], at: usize, left: &[u8]) -> usize
-    requires { ⌜ at + 64 ≤ length (now space) ⌝ }
+    requires { ⌜ (at + 64 ≤ length (now space)) × (1 ≤ length (now left)) ⌝ }
     ensures { λ r. ⌜ Wrote (now (space .entry)) at (whyText (now (left .entry))) (now (space .exit)) r × (r ≤ at + 64) ⌝ }
 {
+    if !is_tag(left[0]) {
+        return put_tag(space, at, left[0]);
+    }
     if left.len() < 3 {
-        return put(space, at, b"the tag and length of a field are cut off");
+        return put(space, at, b"the length of a field is cut off");
     }
     let n = length_at(left, 0);
     if left.len() < 3 + n {
@@ -75,7 +86,7 @@ fn put_why(space: &mut [u8], at: usize, left: &[u8]) -> usize
 
 // Writes the line for an offset in the session and what is left from there on.
 pub fn put_ending(space: &mut [u8], at: u64, left: &[u8]) -> usize
-    requires { ⌜ 128 ≤ length (now space) ⌝ }
+    requires { ⌜ (128 ≤ length (now space)) × (1 ≤ length (now left)) ⌝ }
     ensures { λ r. ⌜ Wrote (now (space .entry)) 0 (endingText at (now (left .entry))) (now (space .exit)) r × (r ≤ 128) ⌝ }
 {
     let number = put(space, 0, b"session_log: ended at byte ");
