@@ -8,12 +8,13 @@ use words::internal::number_at;
 use words::internal::put_digits;
 ghost use mathlib.Core.Path.{_≡_};
 ghost use mathlib.Core.Logic.{_≢_};
+ghost use mathlib.Core.Bool.{true};
+ghost use mathlib.Core.List.{[], _∷_, _++_};
 ghost use Prim.Native.Nat.{_+_, _≤_};
 ghost use lib.ListN.{length, take, drop};
 ghost use Rattle.output.specs.Output.{Wrote};
-ghost use Rattle.digits.specs.Decimal.{digitsOf};
-ghost use Rattle.addresses.specs.declared.Address.the-variants.{Branch};
-ghost use Rattle.addresses.specs.Addresses.{codeAddress, branchAddress, addressOf, addressText};
+ghost use Rattle.digits.specs.Decimal.{digitsOf, digits};
+ghost use Rattle.addresses.specs.Addresses.{codeAddress, branchAddress, addressOf, addressText, addressLength, addressFits};
 
 // The short form of what five bytes hold.
 fn code_from(code: Digits) -> Address
@@ -54,22 +55,26 @@ pub fn address_at(m: &[u8], from: usize, w: usize) -> Address
     branch_from(m, from, code)
 }
 
-// Writes the long form of a code, a branch and two characters.
-pub fn put_branch(
-    space: &mut [u8],
-    at: usize,
-    code: u64,
-    branch: u64,
-    first: u8,
-    second: u8,
-) -> usize
-    requires { ⌜ at + 14 ≤ length (now space) ⌝ }
-    ensures { λ r. ⌜ Wrote (now (space .entry)) at (addressText (Branch code branch first second)) (now (space .exit)) r × (r ≡ at + 14) ⌝ }
+// Writes what follows the code in the long form: a slash, the branch, a slash and two characters.
+fn put_branch(space: &mut [u8], at: usize, branch: u64, first: u8, second: u8) -> usize
+    requires { ⌜ at + 9 ≤ length (now space) ⌝ }
+    ensures { λ r. ⌜ Wrote (now (space .entry)) at (47 ∷ digits 5 branch ++ 47 ∷ first ∷ second ∷ []) (now (space .exit)) r × (r ≡ at + 9) ⌝ }
 {
-    let slash = put_digits(space, at, 5, code);
-    let start = put_byte(space, slash, b'/');
+    let start = put_byte(space, at, b'/');
     let end = put_digits(space, start, 5, branch);
     let text = put_byte(space, end, b'/');
     let last = put_byte(space, text, first);
     put_byte(space, last, second)
+}
+
+// Writes what follows the code of an address: nothing in the short form.
+pub fn put_after_code(space: &mut [u8], at: usize, a: Address) -> usize
+    requires { ⌜ (addressFits a ≡ true) × (at + addressLength a ≤ length (now space) + 5) ⌝ }
+    ensures { λ r. ⌜ Wrote (now (space .entry)) at (drop 5 (addressText a)) (now (space .exit)) r × (r + 5 ≡ at + addressLength a) ⌝ }
+{
+    match a {
+        Address::Malformed => at,
+        Address::Code(_) => at,
+        Address::Branch(_, branch, first, second) => put_branch(space, at, branch, first, second),
+    }
 }

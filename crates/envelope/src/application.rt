@@ -5,7 +5,8 @@ use crate::internal::sender_of;
 use addresses::Address;
 use addresses::address_fits;
 use addresses::address_length;
-use addresses::internal::put_branch;
+use addresses::code_of;
+use addresses::internal::put_after_code;
 use digits::Digits;
 use digits::all_digits;
 use layout::internal::put_field;
@@ -20,16 +21,16 @@ use words::internal::long_number_at;
 use words::internal::number_at;
 use words::internal::put_digits;
 use words::internal::put_eight;
+use words::internal::put_text;
 ghost use mathlib.Core.Path.{_≡_};
 ghost use mathlib.Core.Bool.{true};
-ghost use Prim.Native.Nat.{_+_, _≤_};
+ghost use Prim.Native.Nat.{_+_, _<_, _≤_};
 ghost use lib.ListN.{length};
 ghost use Rattle.output.specs.Output.{Wrote};
 ghost use Rattle.digits.specs.Decimal.{digits};
 ghost use Rattle.layout.specs.Fields.{field, readable};
-ghost use Rattle.addresses.specs.declared.Address.the-variants.{Branch};
-ghost use Rattle.addresses.specs.Addresses.{addressText, addressLength};
-ghost use Rattle.places.specs.Bids.{placesText};
+ghost use Rattle.addresses.specs.Addresses.{addressText, addressLength, addressFits};
+ghost use Rattle.places.specs.Bids.{placesText, placesFit};
 ghost use Rattle.envelope.specs.Application.{layout6G1, fieldBytes, fieldsOf, noFields, readRefusal, reading, isIdentifier, numbersFit, textsFit, writeRefusal, write};
 ghost use Rattle.envelope.specs.Writing.{firstFields, lastFields};
 
@@ -222,7 +223,7 @@ fn texts_fit(kind: &[u8], identifier: &[u8], name: &[u8]) -> bool
 // Writes a field of five to eight digits: eight that end where the field does, then its head over
 // those that are too many, which takes fewer stores than each digit by itself.
 fn put_short(space: &mut [u8], at: usize, tag: u8, w: usize, n: u64) -> usize
-    requires { ⌜ (5 ≤ w) × (w ≤ 8) × (at + 3 + w ≤ length (now space)) ⌝ }
+    requires { ⌜ (5 ≤ w) × (w ≤ 8) × (n < 100000000) × (at + 3 + w ≤ length (now space)) ⌝ }
     ensures { λ r. ⌜ Wrote (now (space .entry)) at (field tag (digits w n)) (now (space .exit)) r × (r ≡ at + 3 + w) ⌝ }
 {
     let end = put_eight(space, at + w - 5, n);
@@ -230,67 +231,37 @@ fn put_short(space: &mut [u8], at: usize, tag: u8, w: usize, n: u64) -> usize
     end
 }
 
-// Writes a field of w digits and answers the index past it.
+// Writes a field of w digits.
 fn put_number(space: &mut [u8], at: usize, tag: u8, w: usize, n: u64) -> usize
     requires { ⌜ at + 3 + w ≤ length (now space) ⌝ }
     ensures { λ r. ⌜ Wrote (now (space .entry)) at (field tag (digits w n)) (now (space .exit)) r × (r ≡ at + 3 + w) ⌝ }
 {
-    if (5 <= w) & (w <= 8) {
-        return put_short(space, at, tag, w, n);
-    }
     let start = put_head(space, at, tag, w);
     put_digits(space, start, w, n)
 }
 
-// Writes the field of an address in the long form. It stands by itself, so that the compiler leaves it
-// out of where the short form is written.
-fn put_long(
-    space: &mut [u8],
-    at: usize,
-    tag: u8,
-    code: u64,
-    branch: u64,
-    first: u8,
-    second: u8,
-) -> usize
-    requires { ⌜ at + 17 ≤ length (now space) ⌝ }
-    ensures { λ r. ⌜ Wrote (now (space .entry)) at (field tag (addressText (Branch code branch first second))) (now (space .exit)) r × (r ≡ at + 17) ⌝ }
+// Writes the field of a sender or recipient: its code, as put_short does, and what follows it.
+fn put_address(space: &mut [u8], at: usize, tag: u8, a: Address) -> usize
+    requires { ⌜ (addressFits a ≡ true) × (at + 3 + addressLength a ≤ length (now space)) ⌝ }
+    ensures { λ r. ⌜ Wrote (now (space .entry)) at (field tag (addressText a)) (now (space .exit)) r × (r ≡ at + 3 + addressLength a) ⌝ }
 {
-    let start = put_head(space, at, tag, 14);
-    put_branch(space, start, code, branch, first, second)
+    let end = put_eight(space, at, code_of(a));
+    put_head(space, at, tag, address_length(a));
+    put_after_code(space, end, a)
 }
 
-// Writes the field of the sender.
-fn put_sender(space: &mut [u8], at: usize, a: Address) -> usize
-    requires { ⌜ at + 3 + addressLength a ≤ length (now space) ⌝ }
-    ensures { λ r. ⌜ Wrote (now (space .entry)) at (field 0x04 (addressText a)) (now (space .exit)) r × (r ≡ at + 3 + addressLength a) ⌝ }
+// Writes a field of eight to sixteen bytes.
+fn put_text_field(space: &mut [u8], at: usize, tag: u8, text: &[u8]) -> usize
+    requires { ⌜ (8 ≤ length (now text)) × (length (now text) ≤ 16) × (at + 3 + length (now text) ≤ length (now space)) ⌝ }
+    ensures { λ r. ⌜ Wrote (now (space .entry)) at (field tag (now (text .entry))) (now (space .exit)) r × (r ≡ at + 3 + length (now (text .entry))) ⌝ }
 {
-    match a {
-        Address::Malformed => put_head(space, at, 0x04, 0),
-        Address::Code(code) => put_number(space, at, 0x04, 5, code),
-        Address::Branch(code, branch, first, second) => {
-            put_long(space, at, 0x04, code, branch, first, second)
-        }
-    }
-}
-
-// Writes the field of the recipient.
-fn put_recipient(space: &mut [u8], at: usize, a: Address) -> usize
-    requires { ⌜ at + 3 + addressLength a ≤ length (now space) ⌝ }
-    ensures { λ r. ⌜ Wrote (now (space .entry)) at (field 0x05 (addressText a)) (now (space .exit)) r × (r ≡ at + 3 + addressLength a) ⌝ }
-{
-    match a {
-        Address::Malformed => put_head(space, at, 0x05, 0),
-        Address::Code(code) => put_number(space, at, 0x05, 5, code),
-        Address::Branch(code, branch, first, second) => {
-            put_long(space, at, 0x05, code, branch, first, second)
-        }
-    }
+    let start = put_head(space, at, tag, text.len());
+    put_text(space, start, text)
 }
 
 // Writes the field of the ten places.
 fn put_bids(space: &mut [u8], at: usize, rates: [Rate; 10], amounts: [Amount; 10]) -> usize
-    requires { ⌜ at + 243 ≤ length (now space) ⌝ }
+    requires { ⌜ (at + 243 ≤ length (now space)) × (placesFit rates amounts ≡ true) ⌝ }
     ensures { λ r. ⌜ Wrote (now (space .entry)) at (field 0x76 (placesText rates amounts)) (now (space .exit)) r × (r ≡ at + 243) ⌝ }
 {
     let start = put_head(space, at, 0x76, 240);
@@ -299,30 +270,30 @@ fn put_bids(space: &mut [u8], at: usize, rates: [Rate; 10], amounts: [Amount; 10
 
 // Writes type, sender, recipient, CRO and reference date.
 fn put_first(space: &mut [u8], a: Application, kind: &[u8]) -> usize
-    requires { ⌜ (length (now kind) ≡ 3) × (37 + addressLength (a .sender) + addressLength (a .recipient) ≤ length (now space)) ⌝ }
+    requires { ⌜ (numbersFit a ≡ true) × (length (now kind) ≡ 3) × (37 + addressLength (a .sender) + addressLength (a .recipient) ≤ length (now space)) ⌝ }
     ensures { λ r. ⌜ Wrote (now (space .entry)) 0 (firstFields a (now (kind .entry))) (now (space .exit)) r × (r ≡ 37 + addressLength (a .sender) + addressLength (a .recipient)) ⌝ }
 {
     let from = a.sender;
     let to = a.recipient;
     let sender = put_field(space, 0, 0x01, kind);
-    let recipient = put_sender(space, sender, from);
-    let cro = put_recipient(space, recipient, to);
+    let recipient = put_address(space, sender, 0x04, from);
+    let cro = put_address(space, recipient, 0x05, to);
     let date = put_number(space, cro, 0x02, 11, a.cro);
-    put_number(space, date, 0x31, 8, a.date)
+    put_short(space, date, 0x31, 8, a.date)
 }
 
 // Writes reference time, check digit, identifier, bids and name.
 fn put_last(space: &mut [u8], at: usize, a: Application, identifier: &[u8], name: &[u8]) -> usize
-    requires { ⌜ (length (now identifier) ≡ 11) × (length (now name) ≡ 15) × (at + 292 ≤ length (now space)) ⌝ }
+    requires { ⌜ (numbersFit a ≡ true) × (length (now identifier) ≡ 11) × (length (now name) ≡ 15) × (at + 292 ≤ length (now space)) ⌝ }
     ensures { λ r. ⌜ Wrote (now (space .entry)) at (lastFields a (now (identifier .entry)) (now (name .entry))) (now (space .exit)) r ⌝ }
 {
     let rates = a.rates;
     let amounts = a.amounts;
-    let check = put_number(space, at, 0x60, 6, a.time);
-    let tail = put_number(space, check, 0x10, 5, a.check);
-    let bids = put_field(space, tail, 0x70, identifier);
+    let check = put_short(space, at, 0x60, 6, a.time);
+    let tail = put_short(space, check, 0x10, 5, a.check);
+    let bids = put_text_field(space, tail, 0x70, identifier);
     let contact = put_bids(space, bids, rates, amounts);
-    put_field(space, contact, 0x7f, name)
+    put_text_field(space, contact, 0x7f, name)
 }
 
 // Writes a 6G1 at the start of a space, or refuses and leaves every byte as it was.

@@ -1,4 +1,2 @@
-pub mod Addresses
-pub mod Answers
 pub mod Interface
 pub mod Rates

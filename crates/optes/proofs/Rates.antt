@@ -2,7 +2,7 @@
 use mathlib.Core.Path.{_≡_, refl, sym, ap, ap₂, _∙_}
 use mathlib.Core.Bool.{Bool, true, false, _&&_, false≢true}
 use mathlib.Core.List.{List, [], _∷_, map}
-use mathlib.Core.Option.{Option}
+use mathlib.Core.Option.{Option, some}
 use Prim.Native.Nat.{ℕ, _≤_, _%_, _^_}
 use native.Mathlib.Omega.{arith}
 use lib.Dec.{ltb}
@@ -14,9 +14,9 @@ use Rattle.places.specs.declared.Rate.{Rate}
 use Rattle.places.specs.declared.Amount.{Amount}
 use Rattle.places.specs.Bids.{fits, placesFit}
 use Rattle.envelope.specs.declared.application.Application.{Application}
+use Rattle.envelope.specs.Refusals.{firstHolding}
 use Rattle.envelope.specs.Application.{numbersFit, textsFit, write}
 use Rattle.optes.specs.Interface.{answerNumber, answered, rateOf}
-use Rattle.optes.proofs.Answers.{unfit-write}
 
 -- what 32 bits hold of a rate
 abbrev pub lowRate : ℕ → Rate
@@ -52,6 +52,11 @@ fit-within b (r ∷ rs) (q ∷ qs) l t h =
 -- an application with other rates
 abbrev pub withRates : Application → List Rate → Application
 withRates a rates = record { sender = a .sender; recipient = a .recipient; cro = a .cro; date = a .date; time = a .time; check = a .check; rates = rates; amounts = a .amounts }
+
+-- numbers or texts that do not fit are refused
+unfit-write : (a : Application) (kind identifier name space : List ℕ) → (numbersFit a && textsFit kind identifier name) ≡ false → write a kind identifier name space ≡ (some 17, space)
+unfolding write firstHolding
+unfit-write a kind identifier name space h = rw h
 
 module _ (a : Application) (rs kind identifier name space : List ℕ) where
   abbrev b : Application

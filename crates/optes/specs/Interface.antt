@@ -2,13 +2,12 @@
 use mathlib.Core.Bool.{cond, _&&_}
 use mathlib.Core.List.{List, map}
 use mathlib.Core.Option.{Option, none, some}
-use Prim.Native.Nat.{ℕ, _+_}
-use lib.Dec.{eqb, ltb}
+use Prim.Native.Nat.{ℕ}
+use lib.Dec.{eqb}
 use lib.ListN.{length, getD}
 use Rattle.layout.specs.Fields.{content}
 use Rattle.addresses.specs.declared.Address.{Address}
 use Rattle.addresses.specs.declared.Address.the-variants.{Malformed, Code, Branch}
-use Rattle.addresses.specs.Addresses.{addressLength}
 use Rattle.places.specs.declared.Rate.{Rate}
 use Rattle.places.specs.declared.Amount.{Amount}
 use Rattle.envelope.specs.declared.application.Application.{Application}
@@ -57,7 +56,3 @@ applicationOf sender recipient cro date time check rates amounts =
       rates = map rateOf rates;
       amounts = map amountOf amounts;
     }
-
--- '18', for which 'writing needs the length of the message it writes': the index past a 6G1 with these addresses, 0 where that is past the space
-unfoldable pub endIn : ℕ → Address → Address → ℕ
-endIn room from to = cond (ltb room (329 + addressLength from + addressLength to)) 0 (329 + addressLength from + addressLength to)

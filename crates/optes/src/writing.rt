@@ -1,27 +1,17 @@
 // A 6G1 written for a host from numbers, texts and the space: with short addresses, or with each in the
 // form that the host names.
 use addresses::Address;
-use addresses::address_fits;
-use addresses::address_length;
-use addresses::internal::put_branch;
 use envelope::application::Application;
 use envelope::application::WriteAnswer;
 use envelope::application::write;
-use layout::internal::put_field;
-use layout::internal::put_head;
 use places::Amount;
 use places::Rate;
-use words::internal::put_digits;
 ghost use mathlib.Core.Path.{_≡_};
-ghost use mathlib.Core.List.{[], _∷_, _++_};
-ghost use Prim.Native.Nat.{_+_, _-_, _%_, _≤_};
-ghost use lib.ListN.{length};
-ghost use Rattle.output.specs.Output.{Wrote};
-ghost use Rattle.layout.specs.Fields.{field};
+ghost use mathlib.Core.List.{[], _∷_};
+ghost use Prim.Native.Nat.{_%_};
 ghost use Rattle.addresses.specs.declared.Address.the-variants.{Code};
-ghost use Rattle.addresses.specs.Addresses.{addressText, addressLength};
 ghost use Rattle.envelope.specs.Application.{write, writeRefusal};
-ghost use Rattle.optes.specs.Interface.{addressFrom, answerNumber, answered, applicationOf, endIn, rateOf};
+ghost use Rattle.optes.specs.Interface.{addressFrom, answerNumber, answered, applicationOf, rateOf};
 
 // What 32 bits hold of a rate.
 fn rate(n: u64) -> Rate
@@ -56,10 +46,9 @@ fn number(a: WriteAnswer) -> u32
 
 // Writes a 6G1 at the start of the space: 0, or 17 or 18 with the space as it was. A rate of over 32
 // bits is too wide for its field; all are tested at once, so that the compiler makes it one test.
-#[no_mangle]
-pub extern "C" fn optes_6g1_write(
-    sender: u64,
-    recipient: u64,
+fn written(
+    from: Address,
+    to: Address,
     cro: u64,
     date: u64,
     time: u64,
@@ -89,7 +78,7 @@ pub extern "C" fn optes_6g1_write(
     name: &[u8],
     space: &mut [u8],
 ) -> u32
-    ensures { λ r. ⌜ (r, now (space .exit)) ≡ answered (write (applicationOf (Code sender) (Code recipient) cro date time check
+    ensures { λ r. ⌜ (r, now (space .exit)) ≡ answered (write (applicationOf from to cro date time check
         (rate0 ∷ rate1 ∷ rate2 ∷ rate3 ∷ rate4 ∷ rate5 ∷ rate6 ∷ rate7 ∷ rate8 ∷ rate9 ∷ [])
         (amount0 ∷ amount1 ∷ amount2 ∷ amount3 ∷ amount4 ∷ amount5 ∷ amount6 ∷ amount7 ∷ amount8 ∷ amount9 ∷ []))
         (now (kind .entry)) (now (identifier .entry)) (now (name .entry)) (now (space .entry))) ⌝ }
@@ -131,8 +120,8 @@ pub extern "C" fn optes_6g1_write(
         Amount(amount9),
     ];
     let a = Application {
-        sender: Address::Code(sender),
-        recipient: Address::Code(recipient),
+        sender: from,
+        recipient: to,
         cro,
         date,
         time,
@@ -143,59 +132,81 @@ pub extern "C" fn optes_6g1_write(
     number(write(a, kind, identifier, name, space))
 }
 
-// Writes the field of a sender or recipient.
-fn put_address(space: &mut [u8], at: usize, tag: u8, a: Address) -> usize
-    requires { ⌜ at + 3 + addressLength a ≤ length (now space) ⌝ }
-    ensures { λ r. ⌜ Wrote (now (space .entry)) at (field tag (addressText a)) (now (space .exit)) r × (r ≡ at + 3 + addressLength a) ⌝ }
+// Writes a 6G1 whose addresses have the short form.
+#[no_mangle]
+pub extern "C" fn optes_6g1_write(
+    sender: u64,
+    recipient: u64,
+    cro: u64,
+    date: u64,
+    time: u64,
+    check: u64,
+    rate0: u64,
+    rate1: u64,
+    rate2: u64,
+    rate3: u64,
+    rate4: u64,
+    rate5: u64,
+    rate6: u64,
+    rate7: u64,
+    rate8: u64,
+    rate9: u64,
+    amount0: u64,
+    amount1: u64,
+    amount2: u64,
+    amount3: u64,
+    amount4: u64,
+    amount5: u64,
+    amount6: u64,
+    amount7: u64,
+    amount8: u64,
+    amount9: u64,
+    kind: &[u8],
+    identifier: &[u8],
+    name: &[u8],
+    space: &mut [u8],
+) -> u32
+    ensures { λ r. ⌜ (r, now (space .exit)) ≡ answered (write (applicationOf (Code sender) (Code recipient) cro date time check
+        (rate0 ∷ rate1 ∷ rate2 ∷ rate3 ∷ rate4 ∷ rate5 ∷ rate6 ∷ rate7 ∷ rate8 ∷ rate9 ∷ [])
+        (amount0 ∷ amount1 ∷ amount2 ∷ amount3 ∷ amount4 ∷ amount5 ∷ amount6 ∷ amount7 ∷ amount8 ∷ amount9 ∷ []))
+        (now (kind .entry)) (now (identifier .entry)) (now (name .entry)) (now (space .entry))) ⌝ }
 {
-    match a {
-        Address::Malformed => put_head(space, at, tag, 0),
-        Address::Code(code) => {
-            let start = put_head(space, at, tag, 5);
-            put_digits(space, start, 5, code)
-        }
-        Address::Branch(code, branch, first, second) => {
-            let start = put_head(space, at, tag, 14);
-            put_branch(space, start, code, branch, first, second)
-        }
-    }
+    written(
+        Address::Code(sender),
+        Address::Code(recipient),
+        cro,
+        date,
+        time,
+        check,
+        rate0,
+        rate1,
+        rate2,
+        rate3,
+        rate4,
+        rate5,
+        rate6,
+        rate7,
+        rate8,
+        rate9,
+        amount0,
+        amount1,
+        amount2,
+        amount3,
+        amount4,
+        amount5,
+        amount6,
+        amount7,
+        amount8,
+        amount9,
+        kind,
+        identifier,
+        name,
+        space,
+    )
 }
 
-// Writes type, sender and recipient, the fields before those that every 6G1 ends with.
-fn put_addresses(space: &mut [u8], kind: &[u8], from: Address, to: Address) -> usize
-    requires { ⌜ 9 + length (now kind) + addressLength from + addressLength to ≤ length (now space) ⌝ }
-    ensures { λ r. ⌜ Wrote (now (space .entry)) 0 (field 0x01 (now (kind .entry)) ++ field 0x04 (addressText from) ++ field 0x05 (addressText to)) (now (space .exit)) r ⌝ }
-{
-    let sender = put_field(space, 0, 0x01, kind);
-    let recipient = put_address(space, sender, 0x04, from);
-    put_address(space, recipient, 0x05, to)
-}
-
-// The index past a 6G1 with these addresses, 0 where it is longer than the space.
-fn end_in(room: usize, from: Address, to: Address) -> usize
-    ensures { λ r. ⌜ r ≡ endIn room from to ⌝ }
-{
-    let end = 329 + address_length(from) + address_length(to);
-    if room < end {
-        return 0;
-    }
-    end
-}
-
-// Where the last 339 bytes before an index start, or all where they are fewer.
-fn last_339(end: usize) -> usize
-    ensures { λ r. ⌜ r ≡ end - 339 ⌝ }
-{
-    if 339 <= end {
-        return end - 339;
-    }
-    0
-}
-
-// Writes a 6G1 whose addresses have length 5 or 14, as optes_6g1_write does: another length, or a long
-// address whose text is not two characters, is answered with 17. From CRO on all forms are the same, so
-// that call writes up to the end of the message, and the fields before go over its start: with one
-// caller of write the compiler puts it in its place.
+// Writes a 6G1 whose addresses have length 5 or 14: another length, or a long address whose text is not
+// two characters, is answered with 17.
 #[no_mangle]
 pub extern "C" fn optes_6g1_write_addresses(
     sender: u64,
@@ -250,13 +261,9 @@ pub extern "C" fn optes_6g1_write_addresses(
         recipient_branch,
         recipient_text,
     );
-    if !(address_fits(from) & address_fits(to)) {
-        return 17;
-    }
-    let end = end_in(space.len(), from, to);
-    let answer = optes_6g1_write(
-        sender,
-        recipient,
+    written(
+        from,
+        to,
         cro,
         date,
         time,
@@ -284,11 +291,6 @@ pub extern "C" fn optes_6g1_write_addresses(
         kind,
         identifier,
         name,
-        &mut space[last_339(end)..end],
-    );
-    if answer != 0 {
-        return answer;
-    }
-    put_addresses(space, kind, from, to);
-    0
+        space,
+    )
 }

@@ -5,8 +5,8 @@ use Prim.Native.Nat.{ℕ, _+_, _-_, _≤_, _<_}
 use native.Mathlib.Nat.{add-assoc, add-zero, zero-add}
 use native.Mathlib.Omega.{arith}
 use native.Mathlib.Numerals.{add-one}
-use lib.ListN.{length, take, drop, set, length-append, length-take, length-drop}
-use lib.Seq.{take-at, drop-at, take-take, drop-drop, take-append-le, drop-append-le, drop-append-add, length-take-le, set-split, append-snoc, paste-zero}
+use lib.ListN.{length, take, drop, set, length-append, length-take, length-drop, take-append-drop}
+use lib.Seq.{take-at, drop-at, take-take, drop-drop, take-append-le, drop-append-le, take-append-add, drop-append-add, length-take-le, set-split, append-snoc, paste-zero}
 use Rattle.output.specs.Output.{overlay, Wrote}
 
 -- one text after another
@@ -62,6 +62,25 @@ covered d at k s t h l m =
     ap₂ (λ (f g : List ℕ). f ++ s ++ g) x y
     ∙ sym (append-assoc (take at d ++ s) u r)
     ∙ ap₂ (λ (f : List ℕ) (j : ℕ). f ++ drop j d) (append-assoc (take at d) s u) e
+
+-- the first n bytes of a text, and over their end all bytes after its first k
+pub overlapped : (d : List ℕ) (at n k : ℕ) (s : List ℕ) → k ≤ n → n ≤ length s → at + length s ≤ length d → overlay (overlay d at (take n s)) (at + k) (drop k s) ≡ overlay d at s
+unfolding overlay
+overlapped d at n k s h l m =
+    let a = take at d in
+    let p = take n s in
+    let q = drop k s in
+    let r = drop (at + length p) d in
+    let i : length a ≡ at = length-take-le at d (omega arith) in
+    let j : length p ≡ n = length-take-le n s l in
+    let o : length (a ++ p) ≡ at + n = length-append a p ∙ omega arith in
+    let v : length q ≡ length s - k = length-drop k s in
+    let x : take (at + k) (a ++ p ++ r) ≡ a ++ take k s = take-append-le (at + k) (a ++ p) r (omega arith) ∙ ap (λ (e : ℕ). take (e + k) (a ++ p)) (sym i) ∙ take-append-add a p k ∙ ap (λ (z : List ℕ). a ++ z) (take-take k n s h) in
+    let e : at + k + length q ≡ length (a ++ p) + (length s - n) = omega arith in
+    let f : at + length p + (length s - n) ≡ at + length s = omega arith in
+    let y : drop (at + k + length q) (a ++ p ++ r) ≡ drop (at + length s) d = ap (λ (t : ℕ). drop t (a ++ p ++ r)) e ∙ drop-append-add (a ++ p) r (length s - n) ∙ drop-drop (length s - n) (at + length p) d ∙ ap (λ (t : ℕ). drop t d) f in
+    ap₂ (λ (z w : List ℕ). z ++ q ++ w) x y
+    ∙ ap (λ (z : List ℕ). z ++ drop (at + length s) d) (append-assoc a (take k s) q ∙ ap (λ (z : List ℕ). a ++ z) (take-append-drop k s))
 
 -- a part of w bytes, lent and given back as s
 pub part-back : (d : List ℕ) (at w : ℕ) (s : List ℕ) → length s ≡ w → take at d ++ (s ++ drop (at + w - at) (drop at d)) ≡ overlay d at s

@@ -1,6 +1,6 @@
 -- Laws of places written. Assumes nothing.
-use mathlib.Core.Path.{_≡_, sym, ap, _∙_}
-use mathlib.Core.Bool.{Bool, _&&_, and-assoc, and-true}
+use mathlib.Core.Path.{_≡_, refl, sym, ap, _∙_}
+use mathlib.Core.Bool.{Bool, true, _&&_, and-assoc, and-true}
 use mathlib.Core.List.{List, [], _∷_, _++_, append-assoc, append-nil}
 use Prim.Native.Nat.{ℕ, zero, suc, _+_, _*_, _/_, _%_, _≤_, _<_}
 use native.Mathlib.Nat.{not-suc-le-zero, le-of-suc-le-suc}
@@ -9,6 +9,8 @@ use native.Mathlib.Omega.{arith}
 use lib.Dec.{ltb}
 use lib.ListN.{length, take, drop, getD, length-append, drop-of-length-le}
 use lib.Seq.{drop-cons}
+use borrow.Author.Tests.{ltb-true}
+use Rattle.laws.proofs.Tests.{and-left, and-right}
 use Rattle.digits.specs.Decimal.{digits}
 use Rattle.digits.proofs.Writing.{length-digits}
 use Rattle.words.proofs.Text.{last-eight}
@@ -64,3 +66,24 @@ fit-more ok rates amounts k d e h l =
 pub fit-end : (ok : Bool) (rates : List Rate) (amounts : List Amount) (k : ℕ) → length rates ≤ k → (ok && placesFit (drop k rates) (drop k amounts)) ≡ ok
 unfolding placesFit
 fit-end ok rates amounts k h = rw (drop-of-length-le rates h) (and-true ok)
+
+-- places that fit, fit one by one
+fit-after : (rates : List Rate) (amounts : List Amount) (k : ℕ) → placesFit rates amounts ≡ true → placesFit (drop k rates) (drop k amounts) ≡ true
+unfolding placesFit
+fit-after rates amounts zero h = h
+fit-after [] amounts (suc k) h = refl
+fit-after (r ∷ rates) [] (suc k) h = go (drop k rates)
+  where
+    go : (rs : List Rate) → placesFit rs [] ≡ true
+    go [] = refl
+    go (q ∷ qs) = refl
+fit-after (r ∷ rates) (a ∷ amounts) (suc k) h = fit-after rates amounts k (and-right (ltb (r .0) 100000000 && ltb (a .0) 1000000000000000) (placesFit rates amounts) h)
+
+pub fit-at : (rates : List Rate) (amounts : List Amount) (k : ℕ) (d : Rate) (e : Amount) → k < length rates → k < length amounts → placesFit rates amounts ≡ true
+    → (getD rates k d .0 < 100000000) × (getD amounts k e .0 < 1000000000000000)
+unfolding placesFit
+fit-at rates amounts k d e h l f =
+    let x = ltb (getD rates k d .0) 100000000 in
+    let y = ltb (getD amounts k e .0) 1000000000000000 in
+    let g = and-left (x && y) (placesFit (drop (suc k) rates) (drop (suc k) amounts)) (rw (drop-cons rates k d h, drop-cons amounts k e l) at (fit-after rates amounts k f)) in
+    (ltb-true (getD rates k d .0) 100000000 (and-left x y g), ltb-true (getD amounts k e .0) 1000000000000000 (and-right x y g))

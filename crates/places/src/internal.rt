@@ -11,12 +11,12 @@ use words::internal::put_seven;
 use words::internal::value;
 ghost use mathlib.Core.Path.{_≡_};
 ghost use mathlib.Core.Bool.{true, _&&_};
-ghost use Prim.Native.Nat.{_+_, _*_, _%_, _≤_};
+ghost use Prim.Native.Nat.{_+_, _*_, _%_, _<_, _≤_};
 ghost use lib.Dec.{eqb};
 ghost use lib.ListN.{length};
 ghost use Rattle.output.specs.Output.{Wrote};
 ghost use Rattle.words.specs.Words.{lowBytes, allSmall, decimal};
-ghost use Rattle.places.specs.Bids.{formedPlace, placeOf, placesOf, placeText, placesText};
+ghost use Rattle.places.specs.Bids.{formedPlace, placeOf, placesOf, placeText, placesText, placesFit};
 
 // Whether the words of rate, slash and seven digits, and eight digits are those of a place.
 fn is_formed(rate: u64, high: u64, low: u64) -> bool
@@ -87,7 +87,7 @@ pub fn read_places(s: &[u8]) -> Places
 // Writes one place from an index on and answers the index past it: eight digits, slash and seven
 // digits, eight digits.
 pub fn put_place(space: &mut [u8], at: usize, rate: Rate, amount: Amount) -> usize
-    requires { ⌜ at + 24 ≤ length (now space) ⌝ }
+    requires { ⌜ (at + 24 ≤ length (now space)) × (rate .0 < 100000000) × (amount .0 < 1000000000000000) ⌝ }
     ensures { λ r. ⌜ Wrote (now (space .entry)) at (placeText rate amount) (now (space .exit)) r × (r ≡ at + 24) ⌝ }
 {
     let slash = put_eight(space, at, rate.0 as u64);
@@ -97,7 +97,7 @@ pub fn put_place(space: &mut [u8], at: usize, rate: Rate, amount: Amount) -> usi
 
 // Writes ten places.
 pub fn put_places(space: &mut [u8], at: usize, rates: [Rate; 10], amounts: [Amount; 10]) -> usize
-    requires { ⌜ at + 240 ≤ length (now space) ⌝ }
+    requires { ⌜ (at + 240 ≤ length (now space)) × (placesFit rates amounts ≡ true) ⌝ }
     ensures { λ r. ⌜ Wrote (now (space .entry)) at (placesText rates amounts) (now (space .exit)) r × (r ≡ at + 240) ⌝ }
 {
     let mut end = at;

@@ -6,10 +6,12 @@ use Prim.Native.Nat.{ℕ, zero, suc, _+_, _*_, _-_, _/_, _%_, _≤_, _<_}
 use native.Mathlib.Nat.{add-zero}
 use native.Mathlib.Omega.{arith}
 use lib.Dec.{leb}
-use lib.ListN.{length, drop, getD, replicate, length-map}
+use lib.ListN.{length, take, drop, getD, replicate, length-drop, length-map}
 use lib.Seq.{drop-drop, getD-drop}
 use borrow.Author.Tests.{le-leb, leb-true}
 use Rattle.laws.proofs.Tests.{and-left, and-right}
+use Rattle.output.specs.Output.{Wrote}
+use Rattle.output.proofs.Output.{overlapped}
 use Rattle.digits.specs.declared.Digits.the-variants.{Number}
 use Rattle.digits.specs.Decimal.{allDigits, numberFrom, digits}
 use Rattle.digits.proofs.Reading.{number-is}
@@ -76,27 +78,30 @@ slash-first t s e =
 
 -- the text of a word that holds a number's eight digits
 module _ (t n : ℕ) (h : HoldsDigits n t) where
-  word-text : lowBytes 8 (t + 0x3030303030303030) ≡ digits 8 n
+  pub word-text : lowBytes 8 (t + 0x3030303030303030) ≡ digits 8 n
   unfolding wordOf
   word-text =
       let s = map up (lowBytes 8 t) in
       bytes-up 8 t (h .small)
       ∙ sym (number-written 8 n s (length-map (lowBytes 8 t) up ∙ length-bytes 8 t) (number-is s (digits-up (lowBytes 8 t) (h .small)) ∙ ap Number (number-up 0 (lowBytes 8 t) ∙ h .number)))
 
-  slash-text : n < 10000000 → lowBytes 8 (t + 0x303030303030302F) ≡ 47 ∷ digits 7 n
+  pub slash-text : n < 10000000 → lowBytes 8 (t + 0x303030303030302F) ≡ 47 ∷ digits 7 n
   slash-text l =
       let c : t + 0x303030303030302F + 1 ≡ t + 0x3030303030303030 = omega arith in
       slash-first (t + 0x303030303030302F) (digits 7 n) (ap (lowBytes 8) c ∙ word-text ∙ zero-digit 7 n l)
-
--- the same of the rest of any number
-pub eight-text : (t n : ℕ) → HoldsDigits (n % 100000000) t → lowBytes 8 (t + 0x3030303030303030) ≡ digits 8 n
-eight-text t n h = word-text t (n % 100000000) h ∙ digits-rest 8 n
-
-pub seven-text : (t n : ℕ) → HoldsDigits (n % 10000000) t → lowBytes 8 (t + 0x303030303030302F) ≡ 47 ∷ digits 7 n
-seven-text t n h = slash-text t (n % 10000000) h (omega arith) ∙ ap (λ (l : List ℕ). 47 ∷ l) (digits-rest 7 n)
 
 -- digits of a width, and the last eight of them
 pub last-eight : (w n : ℕ) → 8 ≤ w → digits (w - 8) (n / 100000000) ++ digits 8 (n % 100000000) ≡ digits w n
 last-eight w n h =
     let e : w - 8 + 8 ≡ w = omega arith in
     ap (λ (t : List ℕ). digits (w - 8) (n / 100000000) ++ t) (digits-rest 8 n) ∙ sym (digits-split (w - 8) 8 n) ∙ ap (λ (j : ℕ). digits j n) e
+
+-- the first eight bytes of a text, and then its last eight
+pub first-and-last : (d : List ℕ) (at : ℕ) (s : List ℕ) {u v d₁ d₂ : List ℕ} {e₁ e₂ : ℕ} → 8 ≤ length s → length s ≤ 16 → at + length s ≤ length d → u ≡ take 8 s → v ≡ drop (length s - 8) s → Wrote d at u d₁ e₁ → Wrote d₁ (at + length s - 8) v d₂ e₂ → Wrote d at s d₂ e₂
+first-and-last d at s h l m p q first last =
+    let k : at + length s - 8 ≡ at + (length s - 8) = omega arith in
+    let n : length (drop (length s - 8) s) ≡ length s - (length s - 8) = length-drop (length s - 8) s in
+    record {
+      bytes = rw (last .bytes, first .bytes, p, q, k) (overlapped d at 8 (length s - 8) s (omega arith) h m);
+      past = last .past ∙ rw q (omega arith);
+    }

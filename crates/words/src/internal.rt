@@ -122,27 +122,11 @@ pub fn long_number_at(s: &[u8], from: usize, to: usize) -> Digits
 // of a sum one by one.
 fn parted(n: u64) -> u64
     requires { ⌜ n < 100000000 ⌝ }
-    ensures { λ r. ⌜ (allSmall (lowBytes 8 r) ≡ true) × (decimal 0 (lowBytes 8 r) ≡ n) ⌝ }
+    ensures { λ r. ⌜ HoldsDigits n r ⌝ }
 {
     let f = n * 4294967296 - n / 10000 * 42949672959999;
     let p = f * 65536 - ((f * 10486 >> 20) & 0x0000007F0000007F) * 6553599;
     p * 256 - ((p * 103 >> 10) & 0x000F000F000F000F) * 2559
-}
-
-// The rest of n by m. A number below m is its own rest, and a test costs less than a division.
-fn rest(n: u64, m: u64) -> u64
-    requires { ⌜ 0 < m ⌝ }
-    ensures { λ r. ⌜ r ≡ n % m ⌝ }
-{
-    if n < m { n } else { n % m }
-}
-
-// The word whose bytes are the eight digits of the rest of n by m.
-fn digits_of_rest(n: u64, m: u64) -> u64
-    requires { ⌜ (0 < m) × (m ≤ 100000000) ⌝ }
-    ensures { λ r. ⌜ HoldsDigits (n % m) r ⌝ }
-{
-    parted(rest(n, m))
 }
 
 // Writes the eight bytes of a word from an index on, the lowest first, and answers the index past them.
@@ -160,20 +144,20 @@ fn put_word(space: &mut [u8], at: usize, t: u64) -> usize
     at + i
 }
 
-// Writes the last eight digits of n.
+// Writes a number of up to eight digits as eight.
 pub fn put_eight(space: &mut [u8], at: usize, n: u64) -> usize
-    requires { ⌜ at + 8 ≤ length (now space) ⌝ }
+    requires { ⌜ (at + 8 ≤ length (now space)) × (n < 100000000) ⌝ }
     ensures { λ r. ⌜ Wrote (now (space .entry)) at (digits 8 n) (now (space .exit)) r × (r ≡ at + 8) ⌝ }
 {
-    put_word(space, at, digits_of_rest(n, 100000000) + 0x3030303030303030)
+    put_word(space, at, parted(n) + 0x3030303030303030)
 }
 
-// Writes a slash and the last seven digits of n.
+// Writes a slash and a number of up to seven digits as seven.
 pub fn put_seven(space: &mut [u8], at: usize, n: u64) -> usize
-    requires { ⌜ at + 8 ≤ length (now space) ⌝ }
+    requires { ⌜ (at + 8 ≤ length (now space)) × (n < 10000000) ⌝ }
     ensures { λ r. ⌜ Wrote (now (space .entry)) at (47 ∷ digits 7 n) (now (space .exit)) r × (r ≡ at + 8) ⌝ }
 {
-    put_word(space, at, digits_of_rest(n, 10000000) + 0x303030303030302F)
+    put_word(space, at, parted(n) + 0x303030303030302F)
 }
 
 // Writes n as w digits, the last eight at once where there are as many.
@@ -186,4 +170,15 @@ pub fn put_digits(space: &mut [u8], at: usize, w: usize, n: u64) -> usize
     }
     let last = digits::internal::put_digits(space, at, w - 8, n / 100000000);
     put_eight(space, last, n % 100000000)
+}
+
+// Writes a text of eight to sixteen bytes: its first eight, and then its last eight, which takes fewer
+// stores than each byte by itself.
+pub fn put_text(space: &mut [u8], at: usize, text: &[u8]) -> usize
+    requires { ⌜ (8 ≤ length (now text)) × (length (now text) ≤ 16) × (at + length (now text) ≤ length (now space)) ⌝ }
+    ensures { λ r. ⌜ Wrote (now (space .entry)) at (now (text .entry)) (now (space .exit)) r ⌝ }
+{
+    let n = text.len();
+    put_word(space, at, eight_bytes(&text[0..8]));
+    put_word(space, at + n - 8, eight_bytes(&text[n - 8..n]))
 }

@@ -6,23 +6,30 @@ use denote.Ref.{now}
 use lib.ListN.{length}
 use Rattle.output.proofs.Output.{then}
 use Rattle.envelope.specs.Writing.{lastFields}
+use Rattle.envelope.proofs.Writing.{all-fit}
 use Rattle.envelope.proofs.application.put_last.Statement.{statement}
 use Rattle.envelope.proofs.application.put_last.Tie as tie
 
-put-number-requires : tie.Need-put-number-requires
-put-number-requires c κs = search needs
+put-short-requires : tie.Need-put-short-requires
+put-short-requires c κs =
+    let start = c .before .before .before .before .before .before in
+    (omega arith, omega arith, omega (arith, all-fit (start .args .a) (start .pre .0) .time), omega (arith, start .pre .3))
 
-put-number-requires-2 : tie.Need-put-number-requires-2
-put-number-requires-2 c κs = search needs
+put-short-requires-2 : tie.Need-put-short-requires-2
+put-short-requires-2 c κs =
+    let start = c .before .before .before .before .before .before .before .before .before .before in
+    (omega arith, omega arith, omega (arith, all-fit (start .args .a) (start .pre .0) .check), omega (arith, start .pre .3, c .before .before .before .put-short .ensures .1))
 
-put-field-requires : tie.Need-put-field-requires
-put-field-requires c κs = search needs
+put-text-field-requires : tie.Need-put-text-field-requires
+put-text-field-requires c κs = search needs
 
 put-bids-requires : tie.Need-put-bids-requires
-put-bids-requires c κs = search needs
+put-bids-requires c κs =
+    let start = c .before .before .before .before .before .before .before .before .before .before .before .before .before .before .before .before .before .before in
+    (omega (arith, start .pre .1, start .pre .3, c .before .before .before .before .before .before .before .before .before .before .before .put-short .ensures .1, c .before .before .before .before .before .before .before .put-short2 .ensures .1, c .before .before .before .put-text-field .ensures .1), all-fit (start .args .a) (start .pre .0) .places)
 
-put-field-requires-2 : tie.Need-put-field-requires-2
-put-field-requires-2 c κs = search needs
+put-text-field-requires-2 : tie.Need-put-text-field-requires-2
+put-text-field-requires-2 c κs = search needs
 
 same-length : tie.Need-same-length
 same-length c = search needs
@@ -37,16 +44,16 @@ returns c =
     let time = check .before .before .before .before in
     let start = time .before .before .before .before .before .before .before in
     let room : start .args .at ≤ length (now (start .args .space)) = omega arith in
-    then room (then room (then room (then room (time .put-number .ensures .0) (check .put-number2 .ensures .0)) (identifier .put-field .ensures .0)) (bids .put-bids .ensures .0)) (name .put-field2 .ensures .0)
+    then room (then room (then room (then room (time .put-short .ensures .0) (check .put-short2 .ensures .0)) (identifier .put-text-field .ensures .0)) (bids .put-bids .ensures .0)) (name .put-text-field2 .ensures .0)
 
 pub put-last-spec : {M : Type 1} → statement M
 put-last-spec =
     tie.close
     (tie.spec
-    put-number-requires
-    put-number-requires-2
-    put-field-requires
+    put-short-requires
+    put-short-requires-2
+    put-text-field-requires
     put-bids-requires
-    put-field-requires-2
+    put-text-field-requires-2
     same-length
     returns)

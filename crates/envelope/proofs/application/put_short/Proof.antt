@@ -1,7 +1,12 @@
 -- `envelope::application::put_short` meets its contract: the head covers the digits that are too many. Assumes nothing.
 use borrow.Author.Needs.{needs}
+use mathlib.Core.Path.{refl}
+use Prim.Native.Nat.{_+_, _-_}
+use native.Mathlib.Omega.{arith}
 use denote.Ref.{now}
-use Rattle.envelope.proofs.Writing.{short-field}
+use Rattle.output.proofs.Output.{said}
+use Rattle.layout.specs.Fields.{head}
+use Rattle.envelope.proofs.Writing.{number-field, short-digits}
 use Rattle.envelope.proofs.application.put_short.Statement.{statement}
 use Rattle.envelope.proofs.application.put_short.Tie as tie
 
@@ -26,7 +31,7 @@ returns c =
     let eight = first .before .before .before .before in
     let start = eight .before .before .before in
     let a = start .args in
-    (short-field (now (a .space)) (a .at) (a .tag) (a .w) (a .n) (start .pre .0) (start .pre .1) (start .pre .2) (eight .put-eight .ensures .0) (first .put-head .ensures), search needs)
+    (said (number-field (a .tag) (a .w) (a .n)) (short-digits (now (a .space)) (a .at) (a .w) (a .n) (a .at + a .w - 5) (head (a .tag) (a .w)) refl (start .pre .0) (start .pre .1) (start .pre .3) (omega (arith, start .pre .0)) (eight .put-eight .ensures .0) (first .put-head .ensures)), search needs)
 
 pub put-short-spec : {M : Type 1} → statement M
 put-short-spec =

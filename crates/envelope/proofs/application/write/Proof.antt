@@ -8,7 +8,7 @@ use native.Mathlib.Omega.{arith}
 use denote.Ref.{now}
 use lib.ListN.{length}
 use Rattle.laws.proofs.Arrays.{length-mapped}
-use Rattle.laws.proofs.Tests.{and-right}
+use Rattle.laws.proofs.Tests.{and-left, and-right}
 use Rattle.output.proofs.Output.{then, said, from-start}
 use Rattle.addresses.specs.Addresses.{addressLength}
 use Rattle.addresses.proofs.ReturnTrip.{at-most-14}
@@ -25,6 +25,11 @@ tested c = rw (c .before .numbers-fit .ensures, c .texts-fit .ensures)
 -- past the first refusal numbers and texts fit
 fit : (c : tie.Else1) → (numbersFit (c .before .before .before .before .before .before .before .args .a) && textsFit (now (c .before .before .before .before .before .before .before .args .kind)) (now (c .before .before .before .before .before .before .before .args .identifier)) (now (c .before .before .before .before .before .before .before .args .name))) ≡ true
 fit c = tested (c .before) ∙ not-false (c .before .before .numbers-fit .result && c .before .texts-fit .result) (c .if1 .left)
+
+numbers : (c : tie.Else1) → numbersFit (c .before .before .before .before .before .before .before .args .a) ≡ true
+numbers c =
+    let a = c .before .before .before .before .before .before .before .args in
+    and-left (numbersFit (a .a)) (textsFit (now (a .kind)) (now (a .identifier)) (now (a .name))) (fit c)
 
 texts : (c : tie.Else1) → textsFit (now (c .before .before .before .before .before .before .before .args .kind)) (now (c .before .before .before .before .before .before .before .args .identifier)) (now (c .before .before .before .before .before .before .before .args .name)) ≡ true
 texts c =
@@ -77,13 +82,13 @@ returns-2 c =
 put-first-requires : tie.Need-put-first-requires
 put-first-requires c κs =
     let a = c .before .before .before .before .before .before .before .before .before .before .before .args in
-    (length-kind (now (a .kind)) (now (a .identifier)) (now (a .name)) (texts (c .before .before .before .before)), omega (arith, c .before .before .before .address-length .ensures, c .before .before .address-length2 .ensures, c .before .if2 .left))
+    (numbers (c .before .before .before .before), length-kind (now (a .kind)) (now (a .identifier)) (now (a .name)) (texts (c .before .before .before .before)), omega (arith, c .before .before .before .address-length .ensures, c .before .before .address-length2 .ensures, c .before .if2 .left))
 
 put-last-requires : tie.Need-put-last-requires
 put-last-requires c κs =
     let a = c .before .before .before .before .before .before .before .before .before .before .before .before .before .before .before .args in
     let t = texts (c .before .before .before .before .before .before .before .before) in
-    (length-identifier (now (a .kind)) (now (a .identifier)) (now (a .name)) t, length-name (now (a .kind)) (now (a .identifier)) (now (a .name)) t, omega (arith, c .before .before .before .put-first .ensures .1, c .before .before .before .before .before .before .before .address-length .ensures, c .before .before .before .before .before .before .address-length2 .ensures, c .before .before .before .before .before .if2 .left))
+    (numbers (c .before .before .before .before .before .before .before .before), length-identifier (now (a .kind)) (now (a .identifier)) (now (a .name)) t, length-name (now (a .kind)) (now (a .identifier)) (now (a .name)) t, omega (arith, c .before .before .before .put-first .ensures .1, c .before .before .before .before .before .before .before .address-length .ensures, c .before .before .before .before .before .before .address-length2 .ensures, c .before .before .before .before .before .if2 .left))
 
 same-length : tie.Need-same-length
 same-length c = search needs

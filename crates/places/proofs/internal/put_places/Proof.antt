@@ -9,7 +9,7 @@ use lib.Seq.{take-all}
 use Rattle.output.specs.Output.{Wrote}
 use Rattle.output.proofs.Output.{then, said, nothing}
 use Rattle.places.specs.Bids.{placesText}
-use Rattle.places.proofs.Writing.{text-more}
+use Rattle.places.proofs.Writing.{text-more, fit-at}
 use Rattle.places.proofs.internal.put_places.Statement.{statement}
 use Rattle.places.proofs.internal.put_places.Tie as tie
 
@@ -19,6 +19,12 @@ Inv-loop space₀ at rates amounts end₀ k₀ space end k =
 
 abbrev μ-loop : tie.MeasureT-loop
 μ-loop space₀ at rates amounts end₀ k₀ space end k = 10 - k
+
+ten-rates : (c : tie.Start Inv-loop μ-loop) → length (c .args .t3) ≡ 10
+ten-rates c = search needs
+
+ten-amounts : (c : tie.Start Inv-loop μ-loop) → length (c .args .t4) ≡ 10
+ten-amounts c = search needs
 
 loop-holds : tie.Need-loop-holds Inv-loop μ-loop
 unfolding placesText
@@ -37,19 +43,19 @@ array-copy-out-amount : tie.Need-array-copy-out-amount Inv-loop μ-loop
 array-copy-out-amount c = omega arith
 
 put-place-requires : tie.Need-put-place-requires Inv-loop μ-loop
-put-place-requires c κs = omega arith
+put-place-requires c κs =
+    let start = c .before .before .before .before .before .before in
+    let l = c .before .before .before .before .loop in
+    let m = ten-rates start in
+    let n = ten-amounts start in
+    let f = fit-at (start .args .t3) (start .args .t4) (l .k) (record { 0 = 0 }) (record { 0 = 0 }) (omega arith) (omega arith) (start .pre .1) in
+    (omega arith, f .0, f .1)
 
 add-k : tie.Need-add-k Inv-loop μ-loop
 add-k c = omega arith
 
 loop-less : tie.Need-loop-less Inv-loop μ-loop
 loop-less c = omega arith
-
-ten-rates : (c : tie.Start Inv-loop μ-loop) → length (c .args .t3) ≡ 10
-ten-rates c = search needs
-
-ten-amounts : (c : tie.Start Inv-loop μ-loop) → length (c .args .t4) ≡ 10
-ten-amounts c = search needs
 
 loop-again : tie.Need-loop-again Inv-loop μ-loop
 loop-again c =

@@ -3,6 +3,7 @@ use borrow.Author.Needs.{needs}
 use Prim.Native.Nat.{_*_, _/_}
 use native.Mathlib.Omega.{arith}
 use lib.Bits.{and-le-r}
+use Rattle.words.proofs.Adding.{eight-of, eight-max}
 use Rattle.words.proofs.Parting.{foursIn, pairsIn, hundreds-fit, pairs-fit, tens-fit, parted-digits, parted-number}
 use Rattle.words.proofs.internal.parted.Statement.{statement}
 use Rattle.words.proofs.internal.parted.Tie as tie
@@ -41,7 +42,14 @@ sub-result : tie.Need-sub-result
 sub-result c = tens-fit (c .args .n) (c .pre)
 
 returns : tie.Need-returns
-returns c = (parted-digits (c .args .n) (c .pre), parted-number (c .args .n) (c .pre))
+returns c =
+    let small = parted-digits (c .args .n) (c .pre) in
+    let m = pairs-fit (c .args .n) (c .pre) in
+    record {
+      small = small;
+      number = parted-number (c .args .n) (c .pre);
+      most = eight-max _ (eight-of _ (omega arith) small);
+    }
 
 pub parted-spec : {M : Type 1} → statement M
 parted-spec =

@@ -1,12 +1,12 @@
 -- `words::internal::put_eight` meets its contract. Assumes nothing.
 use borrow.Author.Needs.{needs}
 use Rattle.output.proofs.Output.{said}
-use Rattle.words.proofs.Text.{eight-text}
+use Rattle.words.proofs.Text.{word-text}
 use Rattle.words.proofs.internal.put_eight.Statement.{statement}
 use Rattle.words.proofs.internal.put_eight.Tie as tie
 
-digits-of-rest-requires : tie.Need-digits-of-rest-requires
-digits-of-rest-requires c κs = search needs
+parted-requires : tie.Need-parted-requires
+parted-requires c κs = search needs
 
 add-put-word : tie.Need-add-put-word
 add-put-word c = search needs
@@ -18,8 +18,10 @@ same-length : tie.Need-same-length
 same-length c = search needs
 
 returns : tie.Need-returns
-returns c = (said (eight-text (c .before .before .before .digits-of-rest .result) (c .before .before .before .before .before .before .args .n) (c .before .before .before .digits-of-rest .ensures)) (c .before .before .put-word .ensures .0), search needs)
+returns c =
+    let p = c .before .before .before .parted in
+    (said (word-text (p .result) (c .before .before .before .before .before .before .args .n) (p .ensures)) (c .before .before .put-word .ensures .0), search needs)
 
 pub put-eight-spec : {M : Type 1} → statement M
 put-eight-spec =
-    tie.close (tie.spec digits-of-rest-requires add-put-word put-word-requires same-length returns)
+    tie.close (tie.spec parted-requires add-put-word put-word-requires same-length returns)

@@ -1,12 +1,12 @@
 -- `words::internal::put_seven` meets its contract. Assumes nothing.
 use borrow.Author.Needs.{needs}
 use Rattle.output.proofs.Output.{said}
-use Rattle.words.proofs.Text.{seven-text}
+use Rattle.words.proofs.Text.{slash-text}
 use Rattle.words.proofs.internal.put_seven.Statement.{statement}
 use Rattle.words.proofs.internal.put_seven.Tie as tie
 
-digits-of-rest-requires : tie.Need-digits-of-rest-requires
-digits-of-rest-requires c κs = search needs
+parted-requires : tie.Need-parted-requires
+parted-requires c κs = search needs
 
 add-put-word : tie.Need-add-put-word
 add-put-word c = search needs
@@ -18,8 +18,11 @@ same-length : tie.Need-same-length
 same-length c = search needs
 
 returns : tie.Need-returns
-returns c = (said (seven-text (c .before .before .before .digits-of-rest .result) (c .before .before .before .before .before .before .args .n) (c .before .before .before .digits-of-rest .ensures)) (c .before .before .put-word .ensures .0), search needs)
+returns c =
+    let p = c .before .before .before .parted in
+    let start = c .before .before .before .before .before .before in
+    (said (slash-text (p .result) (start .args .n) (p .ensures) (start .pre .1)) (c .before .before .put-word .ensures .0), search needs)
 
 pub put-seven-spec : {M : Type 1} → statement M
 put-seven-spec =
-    tie.close (tie.spec digits-of-rest-requires add-put-word put-word-requires same-length returns)
+    tie.close (tie.spec parted-requires add-put-word put-word-requires same-length returns)
