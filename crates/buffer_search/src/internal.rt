@@ -32,7 +32,7 @@ fn below_from(codes: &[u64], from: usize, code: u64) -> usize
 }
 
 // How many of rising codes are below this one: by eights, and then one by one. A search by halving
-// takes fewer steps, but with codes in any order half of its turns are guessed wrong.
+// takes fewer steps, and was slower where codes came in any order.
 fn below(codes: &[u64], code: u64) -> usize
     requires { ⌜ rising (now codes) ≡ true ⌝ }
     ensures { λ r. ⌜ AsManyBelow (now (codes .entry)) r code ⌝ }
