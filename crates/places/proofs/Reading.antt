@@ -1,5 +1,5 @@
 -- Laws of places read. Assumes nothing.
-use mathlib.Core.Path.{_≡_, refl, sym, ap, ap₂, _∙_}
+use mathlib.Core.Path.{_≡_, refl, sym, ap, ap₂, subst, _∙_}
 use mathlib.Core.Bool.{Bool, true, false, _&&_}
 use mathlib.Core.List.{List, [], _∷_, _++_, map}
 use Prim.Native.Nat.{ℕ, zero, suc, _+_, _*_, _%_, _^_, _<_}
@@ -96,6 +96,20 @@ pub words-place : (s : List ℕ) → length s ≡ 24 → isPlace s ≡ true → 
 words-place s n i r h l p q t =
     let f = parts-of s i in
     place-is s n i (decimal 0 (lowBytes 8 r)) (decimal 0 (lowBytes 8 h)) (decimal 0 (lowBytes 8 l)) (p .number (f .rate)) (q .number (at-slash s ∙ f .slashed) (ap allDigits (after-slash s) ∙ f .high) ∙ ap numberOf (after-slash s)) (t .number (f .low))
+
+-- the place of words that are zeros
+pub zero-place : (s : List ℕ) → length s ≡ 24 → (r h l : ℕ) → Lowered (take 8 s) r → AfterSlash (take 8 (drop 8 s)) h → Lowered (take 8 (drop 16 s)) l
+    → (eqb r 0 && eqb h 0 && eqb l 0) ≡ true → formedPlace 0 0 ≡ placeOf s
+unfolding allSmall lowBytes decimal
+zero-place s n r h l p q t z =
+    let both = and-left (eqb r 0 && eqb h 0) (eqb l 0) z in
+    let a = eqb-true r 0 (and-left (eqb r 0) (eqb h 0) both) in
+    let b = eqb-true h 0 (and-right (eqb r 0) (eqb h 0) both) in
+    let c = eqb-true l 0 (and-right (eqb r 0 && eqb h 0) (eqb l 0) z) in
+    let x = subst (Lowered (take 8 s)) a p in
+    let y = subst (AfterSlash (take 8 (drop 8 s))) b q in
+    let w = subst (Lowered (take 8 (drop 16 s))) c t in
+    words-place s n (sym (formed-is s 0 0 0 x y w)) 0 0 0 x y w
 
 pub malformed-is : (s : List ℕ) → isPlace s ≡ false → malformed ≡ placeOf s
 unfolding placeOf

@@ -39,7 +39,8 @@ fn formed_place(rate: u64, high: u64, low: u64) -> Place
     }
 }
 
-// The place in 24 characters. Each byte is loaded once, to be tested and to give its digit.
+// The place in 24 characters. Each byte is loaded once, to be tested and to give its digit. Many places
+// are empty, and the words of one are zeros, so that there is no digit to look at.
 pub fn read_place(s: &[u8]) -> Place
     requires { ⌜ length (now s) ≡ 24 ⌝ }
     ensures { λ r. ⌜ r ≡ placeOf (now (s .entry)) ⌝ }
@@ -47,6 +48,13 @@ pub fn read_place(s: &[u8]) -> Place
     let rate = lowered(&s[0..8]);
     let high = after_slash(&s[8..16]);
     let low = lowered(&s[16..24]);
+    if (rate == 0) & (high == 0) & (low == 0) {
+        return Place {
+            formed: true,
+            rate: Rate(0),
+            amount: Amount(0),
+        };
+    }
     if is_formed(rate, high, low) {
         formed_place(rate, high, low)
     } else {

@@ -6,11 +6,11 @@ use Prim.Native.Nat.{ℕ, zero, suc, _+_, _*_, _-_, _/_, _%_, _^_, _<_}
 use native.Mathlib.Nat.{not-suc-le-zero, lt-of-le-of-lt, mod-eq-of-lt, div-mul-le-self, div-div-eq-div-mul, mul-assoc}
 use native.Mathlib.Omega.{arith}
 use lib.Dec.{leb, ltb, eqb, lit<}
-use lib.Bits.{bitAnd, bitOr, bitXor, and-block, or-block, and-le-r, or-lt, and-zero-r, xor-mod, xor-shr}
+use lib.Bits.{bitAnd, bitOr, bitXor, and-block, or-block, and-le-r, or-lt, and-zero-r, and-mod, or-mod, xor-mod, xor-shr}
 use lib.ListN.{length, take, drop, getD}
 use lib.Pow.{pow-add}
 use lib.Seq.{take-all}
-use borrow.Author.Tests.{eq-eqb, eqb-true, ltb-true, ltb-false}
+use borrow.Author.Tests.{eq-eqb, eqb-true, leb-true, ltb-true, ltb-false}
 use Rattle.laws.proofs.Tests.{and-left, and-right, same-test}
 use Rattle.digits.specs.Decimal.{isDigit, allDigits, numberFrom}
 use Rattle.digits.proofs.Reading.{first-digit, rest-digits}
@@ -86,7 +86,7 @@ same-is false false h = refl
 
 -- the tests of one byte
 abbrev over : ℕ → ℕ
-over b = bitAnd (bitOr b (bitAnd b 15 + 6)) 240
+over b = bitAnd (bitOr b ((b + 6) % 256)) 240
 
 byte-small : (b : ℕ) → b < 256 → eqb (over b) 0 ≡ leb b 9
 unfolding holdsBelow
@@ -115,25 +115,46 @@ zero-both x y =
     (λ e. let q = eqb-true (x * 256 + y) 0 e in rw (eq-eqb y 0 (omega arith), eq-eqb x 0 (omega arith)))
     (λ e. let p = eqb-true y 0 (and-left (eqb y 0) (eqb x 0) e) in let q = eqb-true x 0 (and-right (eqb y 0) (eqb x 0) e) in eq-eqb (x * 256 + y) 0 (omega arith))
 
--- bytes tested at once
-pub tested : (k t : ℕ) → eqb (bitAnd (bitOr t (bitAnd t (each k 15) + each k 6)) (each k 240)) 0 ≡ allSmall (lowBytes k t)
+-- bytes tested at once: those above one that is small are tested as they are without it
+tested-rest : (k q b : ℕ) → eqb (bitAnd (bitOr q (q + each k 6)) (each k 240)) 0 ≡ allSmall (lowBytes k q)
+    → (leb b 9 && eqb (bitAnd (bitOr q (q + each k 6 + (b + 6) / 256)) (each k 240)) 0) ≡ (leb b 9 && allSmall (lowBytes k q))
+tested-rest k q b h = go (leb b 9) refl
+  where
+    go : (x : Bool) → leb b 9 ≡ x → (leb b 9 && eqb (bitAnd (bitOr q (q + each k 6 + (b + 6) / 256)) (each k 240)) 0) ≡ (leb b 9 && allSmall (lowBytes k q))
+    go false e = rw e
+    go true e =
+        let r = leb-true b 9 e in
+        let z : q + each k 6 + (b + 6) / 256 ≡ q + each k 6 = omega arith in
+        rw (e, z) h
+
+tested : (k t : ℕ) → eqb (bitAnd (bitOr t (t + each k 6)) (each k 240)) 0 ≡ allSmall (lowBytes k t)
 unfolding each allSmall lowBytes
-tested zero t = rw (and-zero-r (bitOr t (bitAnd t 0 + 0)))
+tested zero t = rw (and-zero-r (bitOr t (t + 0)))
 tested (suc k) t =
     let q = t / 256 in
     let b = t % 256 in
     let l : b < 256 = omega arith in
     let e : t ≡ q * 256 + b = omega arith in
-    let m : bitAnd t (each k 15 * 256 + 15) ≡ bitAnd q (each k 15) * 256 + bitAnd b 15 = ap (λ (x : ℕ). bitAnd x (each k 15 * 256 + 15)) e ∙ and-block 8 q (each k 15) b 15 l (lit< tt) in
-    let low = and-le-r b 15 in
-    let rest = bitAnd q (each k 15) + each k 6 in
-    let a : bitAnd t (each k 15 * 256 + 15) + (each k 6 * 256 + 6) ≡ rest * 256 + (bitAnd b 15 + 6) = omega arith in
-    let o : bitOr t (bitAnd t (each k 15 * 256 + 15) + (each k 6 * 256 + 6)) ≡ bitOr q rest * 256 + bitOr b (bitAnd b 15 + 6) = ap₂ bitOr e a ∙ or-block 8 q rest b (bitAnd b 15 + 6) l (omega arith) in
-    let n = or-lt 8 b (bitAnd b 15 + 6) l (omega arith) in
+    let v = (b + 6) % 256 in
+    let rest = q + each k 6 + (b + 6) / 256 in
+    let a : t + (each k 6 * 256 + 6) ≡ rest * 256 + v = omega arith in
+    let o : bitOr t (t + (each k 6 * 256 + 6)) ≡ bitOr q rest * 256 + bitOr b v = ap₂ bitOr e a ∙ or-block 8 q rest b v l (omega arith) in
+    let n = or-lt 8 b v l (omega arith) in
     ap (λ (x : ℕ). eqb (bitAnd x (each k 240 * 256 + 240)) 0) o
-    ∙ ap (λ (x : ℕ). eqb x 0) (and-block 8 (bitOr q rest) (each k 240) (bitOr b (bitAnd b 15 + 6)) 240 n (lit< tt))
+    ∙ ap (λ (x : ℕ). eqb x 0) (and-block 8 (bitOr q rest) (each k 240) (bitOr b v) 240 n (lit< tt))
     ∙ zero-both (bitAnd (bitOr q rest) (each k 240)) (over b)
-    ∙ ap₂ _&&_ (byte-small b l) (tested k q)
+    ∙ ap (λ (x : Bool). x && eqb (bitAnd (bitOr q rest) (each k 240)) 0) (byte-small b l)
+    ∙ tested-rest k q b (tested k q)
+
+-- and in a word, where the sum wraps
+pub word-tested : (t v : ℕ) → t < 2 ^ 64 → v ≡ (t + each 8 6) % 2 ^ 64 → eqb (bitAnd (bitOr t v) (each 8 240)) 0 ≡ allSmall (lowBytes 8 t)
+unfolding each
+word-tested t v l e =
+    let s = t + each 8 6 in
+    let m = each 8 240 in
+    let below : bitAnd (bitOr t s) m < 2 ^ 64 = lt-of-le-of-lt (and-le-r (bitOr t s) m) (lit< tt) in
+    let p : bitAnd (bitOr t v) m ≡ bitAnd (bitOr (t % 2 ^ 64) (s % 2 ^ 64)) (m % 2 ^ 64) = ap₂ (λ (x y : ℕ). bitAnd (bitOr x y) m) (sym (mod-eq-of-lt l)) e in
+    ap (λ (x : ℕ). eqb x 0) (p ∙ ap (λ (x : ℕ). bitAnd x (m % 2 ^ 64)) (sym (or-mod t s 64)) ∙ sym (and-mod (bitOr t s) m 64) ∙ mod-eq-of-lt below) ∙ tested 8 t
 
 -- '0' taken off each byte
 abbrev low : ℕ → ℕ

@@ -53,11 +53,12 @@ pub fn after_slash(s: &[u8]) -> u64
     eight_bytes(s) ^ 0x303030303030302F
 }
 
-// Whether each byte of a word is 0 to 9: its high half is 0, also after 6 is added to its low half.
+// Whether each byte of a word is 0 to 9: its high half is 0, also after 6 is added to it. Where a byte
+// carries into the next one, its own high half is not 0.
 pub fn all_small(t: u64) -> bool
     ensures { λ r. ⌜ r ≡ allSmall (lowBytes 8 t) ⌝ }
 {
-    (t | ((t & 0x0F0F0F0F0F0F0F0F) + 0x0606060606060606)) & 0xF0F0F0F0F0F0F0F0 == 0
+    (t | std::num::wrapping_add_u64(t, 0x0606060606060606)) & 0xF0F0F0F0F0F0F0F0 == 0
 }
 
 // The number whose eight digits are the bytes of t, the first lowest.
