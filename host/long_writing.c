@@ -1,48 +1,7 @@
 // Which addresses are written, into how much space, and what a refused write leaves.
-#include <string.h>
-
-#include "address.h"
 #include "cases.h"
-#include "check.h"
 #include "optes.h"
-#include "pattern.h"
-
-// What a write takes of an address beside its code.
-struct given {
-    uint64_t length;
-    uint64_t branch;
-    struct text text;
-};
-
-// What a write takes: the six digit fields, the ten rates and the ten amounts; the addresses; the texts; the
-// length of the space.
-struct writing {
-    uint64_t numbers[NUMBERS];
-    struct given sender;
-    struct given recipient;
-    struct text type;
-    struct text identifier;
-    struct text name;
-    size_t space;
-};
-
-static const struct given short_form = {5, 0, {"", 0}};
-
-// The writing that gives a mixture, into just enough space.
-static struct writing writing_of(size_t index)
-{
-    struct writing w = {
-        .sender = index & 1 ? (struct given){14, 12345, TEXT("AB")} : short_form,
-        .recipient = index & 2 ? (struct given){14, 70, TEXT("\x00\xff")} : short_form,
-        .type = TEXT("6G1"),
-        .identifier = TEXT("T/2012/0001"),
-        .name = TEXT("CONTACT \x00 \xff end"),
-        .space = mixture(index).length,
-    };
-    for (size_t k = 0; k < NUMBERS; k++)
-        w.numbers[k] = numbers[k].value;
-    return w;
-}
+#include "write.h"
 
 // The texts of a write, each against its guard.
 struct lent {
@@ -52,16 +11,6 @@ struct lent {
     const uint8_t *identifier;
     const uint8_t *name;
 };
-
-static const uint8_t *lend(const struct guarded *g, struct text t)
-{
-    return guarded_copy(g, t.bytes, t.length);
-}
-
-static void expect_kept(const uint8_t *bytes, struct text t)
-{
-    CHECK(memcmp(bytes, t.bytes, t.length) == 0);
-}
 
 static uint32_t call(const struct buffers *b, const struct writing *w, uint8_t *space)
 {
@@ -84,23 +33,15 @@ static uint32_t call(const struct buffers *b, const struct writing *w, uint8_t *
     return answer;
 }
 
-// The write is refused with this number, and the space stays.
 static void refused(const struct buffers *b, const struct writing *w, uint32_t number)
 {
-    uint8_t *space = guarded_bytes(&b->space, w->space);
-    pattern_put(space, w->space);
-    CHECK(call(b, w, space) == number);
-    pattern_expect(space, 0, w->space);
+    expect_refused(call, b, w, number);
 }
 
-// The write gives the message with these addresses, and the bytes past it stay.
+// The write gives the message with these addresses.
 static void written(const struct buffers *b, const struct writing *w, const struct addressed *a)
 {
-    uint8_t *space = guarded_bytes(&b->space, w->space);
-    pattern_put(space, w->space);
-    CHECK(call(b, w, space) == 0);
-    CHECK(memcmp(space, a->bytes, a->length) == 0);
-    pattern_expect(space, a->length, w->space);
+    expect_written(call, b, w, a->bytes, a->length);
 }
 
 // What does not fit is 17 with enough space and with too little, none too.
@@ -113,13 +54,26 @@ static void unfit(const struct buffers *b, struct writing w)
     refused(b, &w, 17);
 }
 
-// What does not fit a long address is not looked at for a short one.
+// What does not fit a long address, 17, is not looked at for a short one.
 static void unfit_if_long(const struct buffers *b, const struct writing *w, const struct addressed *a, size_t is_long)
 {
     if (is_long)
         unfit(b, *w);
     else
         written(b, w, a);
+}
+
+// This branch and this text, of which one does not fit, with either address of each mixture.
+static void unfit_given(const struct buffers *b, uint64_t branch, struct text text)
+{
+    for (size_t k = 0; k < MIXTURES; k++) {
+        const struct addressed a = mixture(k);
+        struct writing sender = writing_of(k), recipient = writing_of(k);
+        sender.sender.branch = recipient.recipient.branch = branch;
+        sender.sender.text = recipient.recipient.text = text;
+        unfit_if_long(b, &sender, &a, k & 1);
+        unfit_if_long(b, &recipient, &a, k & 2);
+    }
 }
 
 // Each mixture into every space from 0 to 400: 18 below its length, 338, 347 and 356 too.
@@ -154,35 +108,21 @@ static void lengths(const struct buffers *b)
     }
 }
 
-// Branches of more than five digits: 17 in the long form, and not looked at in the short one.
+// Branches of more than five digits.
 static void wide_branches(const struct buffers *b)
 {
     const uint64_t wide = UINT64_C(4294967296);
     const uint64_t others[] = {100000, 999999, wide, wide + 12345, UINT64_MAX};
-    for (size_t i = 0; i < sizeof others / sizeof *others; i++) {
-        for (size_t k = 0; k < MIXTURES; k++) {
-            const struct addressed a = mixture(k);
-            struct writing sender = writing_of(k), recipient = writing_of(k);
-            sender.sender.branch = recipient.recipient.branch = others[i];
-            unfit_if_long(b, &sender, &a, k & 1);
-            unfit_if_long(b, &recipient, &a, k & 2);
-        }
-    }
+    for (size_t i = 0; i < sizeof others / sizeof *others; i++)
+        unfit_given(b, others[i], TEXT("AB"));
 }
 
-// Texts that are not of two bytes: 17 in the long form, and not looked at in the short one.
+// Texts that are not of two bytes.
 static void other_texts(const struct buffers *b)
 {
     const struct text others[] = {TEXT(""), TEXT("A"), TEXT("ABC"), TEXT("14 characters.")};
-    for (size_t i = 0; i < sizeof others / sizeof *others; i++) {
-        for (size_t k = 0; k < MIXTURES; k++) {
-            const struct addressed a = mixture(k);
-            struct writing sender = writing_of(k), recipient = writing_of(k);
-            sender.sender.text = recipient.recipient.text = others[i];
-            unfit_if_long(b, &sender, &a, k & 1);
-            unfit_if_long(b, &recipient, &a, k & 2);
-        }
-    }
+    for (size_t i = 0; i < sizeof others / sizeof *others; i++)
+        unfit_given(b, 12345, others[i]);
 }
 
 // Addresses with other numbers and texts, of any two bytes.

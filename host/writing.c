@@ -2,76 +2,43 @@
 #include <string.h>
 
 #include "cases.h"
-#include "check.h"
-#include "message.h"
 #include "optes.h"
-#include "pattern.h"
-
-// What a write takes: the six digit fields, the ten rates and the ten amounts; the texts; the length
-// of the space.
-struct writing {
-    uint64_t numbers[NUMBERS];
-    struct text type;
-    struct text identifier;
-    struct text name;
-    size_t space;
-};
+#include "write.h"
 
 // The writing that gives the message.
 static struct writing valid(void)
 {
-    struct writing w = {
-        .type = TEXT("6G1"),
-        .identifier = TEXT("T/2012/0001"),
-        .name = TEXT("CONTACT \x00 \xff end"),
-        .space = MESSAGE_BYTES,
-    };
-    for (size_t k = 0; k < NUMBERS; k++)
-        w.numbers[k] = numbers[k].value;
-    return w;
-}
-
-static uint8_t *text_bytes(const struct guarded *g, struct text t)
-{
-    return guarded_copy(g, t.bytes, t.length);
+    return writing_of(0);
 }
 
 // The call, with each text and the space against its guard.
 static uint32_t call(const struct buffers *b, const struct writing *w, uint8_t *space)
 {
     const uint64_t *n = w->numbers;
-    const uint8_t *type = text_bytes(&b->type, w->type);
-    const uint8_t *identifier = text_bytes(&b->identifier, w->identifier);
-    const uint8_t *name = text_bytes(&b->name, w->name);
+    const uint8_t *type = lend(&b->type, w->type);
+    const uint8_t *identifier = lend(&b->identifier, w->identifier);
+    const uint8_t *name = lend(&b->name, w->name);
     uint32_t answer = optes_6g1_write(
         n[0], n[1], n[2], n[3], n[4], n[5],
         n[6], n[7], n[8], n[9], n[10], n[11], n[12], n[13], n[14], n[15],
         n[16], n[17], n[18], n[19], n[20], n[21], n[22], n[23], n[24], n[25],
         type, w->type.length, identifier, w->identifier.length, name, w->name.length,
         space, w->space);
-    CHECK(memcmp(type, w->type.bytes, w->type.length) == 0);
-    CHECK(memcmp(identifier, w->identifier.bytes, w->identifier.length) == 0);
-    CHECK(memcmp(name, w->name.bytes, w->name.length) == 0);
+    expect_kept(type, w->type);
+    expect_kept(identifier, w->identifier);
+    expect_kept(name, w->name);
     return answer;
 }
 
-// The write is refused with this number, and the space stays.
 static void refused(const struct buffers *b, const struct writing *w, uint32_t number)
 {
-    uint8_t *space = guarded_bytes(&b->space, w->space);
-    pattern_put(space, w->space);
-    CHECK(call(b, w, space) == number);
-    pattern_expect(space, 0, w->space);
+    expect_refused(call, b, w, number);
 }
 
-// The write gives these bytes, and those past them stay.
+// The write gives these bytes of a message.
 static void written(const struct buffers *b, const struct writing *w, const char *expected)
 {
-    uint8_t *space = guarded_bytes(&b->space, w->space);
-    pattern_put(space, w->space);
-    CHECK(call(b, w, space) == 0);
-    CHECK(memcmp(space, expected, MESSAGE_BYTES) == 0);
-    pattern_expect(space, MESSAGE_BYTES, w->space);
+    expect_written(call, b, w, expected, MESSAGE_BYTES);
 }
 
 // The least number that has more digits than this.

@@ -256,9 +256,14 @@ static inline uint32_t optes_application_read(struct optes_application *a, const
 }
 
 // Writes an application of which an address is long, for the function below. It is not put into its caller, where
-// the compiler would load what both of its calls need for either of them.
-__attribute__((noinline, unused)) static uint32_t optes_application_write_long(const struct optes_application *a,
-    uint8_t *space, size_t n)
+// the compiler would load what both of its calls need for either of them. Without optimization it is inline, since
+// gcc then keeps any other static function, and a host that does not call it would still need its archive.
+#ifdef __OPTIMIZE__
+__attribute__((noinline, unused)) static
+#else
+static inline
+#endif
+uint32_t optes_application_write_long(const struct optes_application *a, uint8_t *space, size_t n)
 {
     const struct optes_place *p = a->places;
     const struct optes_address *from = &a->sender_address, *to = &a->recipient_address;

@@ -124,8 +124,35 @@ static void recipients(const struct desk *d)
     }
 }
 
+// A tender that has received nothing confirms the message, or else returns it with this error alone.
+static void is_answered(const struct desk *d, const struct sent *s, int is_right, const char *shown, uint64_t error)
+{
+    struct optes_book b = opened(d);
+    if (is_right)
+        is_confirmed(d, &b, s);
+    else
+        is_returned(d, &b, s, shown, error);
+}
+
+// Each byte of a long recipient with these others: 599 for its first five, and any byte is right after them.
+static void bytes_of_recipients(const struct desk *d)
+{
+    const char others[] = {' ', '0' | (char)0x80, '\0', ':', 'x', '/', '7'};
+    for (size_t at = 0; at < 14; at++) {
+        for (size_t k = 0; k < sizeof others; k++) {
+            char bytes[] = "01000/12345/AB";
+            bytes[at] = others[k];
+            const struct address recipient = {bytes, 14};
+            const struct sent s = sent_at(102900, ADDRESS("90002"), recipient);
+            const struct sent longer = sent_at(102900, SENDER, recipient);
+            is_answered(d, &s, at >= 5, "050 - 599", 599);
+            is_answered(d, &longer, at >= 5, "050 - 599", 599);
+        }
+    }
+}
+
 // Each byte of a long sender with these others: 309 up to its second slash, and any byte is right in its text.
-static void senders(const struct desk *d)
+static void bytes_of_senders(const struct desk *d)
 {
     const char others[] = {' ', '2' | (char)0x80, '\0', ':', 'x', '/'};
     for (size_t at = 0; at < 14; at++) {
@@ -134,12 +161,8 @@ static void senders(const struct desk *d)
             if (bytes[at] == others[k])
                 continue;
             bytes[at] = others[k];
-            struct optes_book b = opened(d);
             const struct sent s = sent_at(102900, (struct address){bytes, 14}, SHORT_RECIPIENT);
-            if (at < 12)
-                is_returned(d, &b, &s, "040 - 309", 309);
-            else
-                is_confirmed(d, &b, &s);
+            is_answered(d, &s, at >= 12, "040 - 309", 309);
         }
     }
 }
@@ -283,7 +306,8 @@ void branch_cases(const struct desk *d)
     one_counterparty(d);
     cancels(d);
     recipients(d);
-    senders(d);
+    bytes_of_recipients(d);
+    bytes_of_senders(d);
     codes_of_senders(d);
     rooms(d);
     returned_lengths(d);

@@ -49,7 +49,7 @@ mod tests {
         for seed in DEFAULT_SEED..DEFAULT_SEED + DEFAULT_COUNT / 10 {
             drawn.count(&generate::sequence(seed));
         }
-        assert_eq!(drawn.counts.len(), 35, "each boundary was looked for: {:?}", drawn.counts);
+        assert_eq!(drawn.counts.len(), 36, "each boundary was looked for: {:?}", drawn.counts);
         assert!(drawn.counts.values().all(|&count| count >= 20), "{:?}", drawn.counts);
     }
 

@@ -37,7 +37,7 @@ mod tests {
         for seed in DEFAULT_SEED..DEFAULT_SEED + DEFAULT_COUNT {
             drawn.count(&generate::session(seed));
         }
-        assert_eq!(drawn.counts.len(), 24, "each kind was looked for");
+        assert_eq!(drawn.counts.len(), 25, "each kind was looked for");
         assert!(drawn.counts.values().all(|&count| count >= 50), "{:?}", drawn.counts);
     }
 

@@ -41,12 +41,7 @@ const fn head(field: Field) -> [u8; HEADER] {
 }
 
 /// The fields of the tail.
-const TAIL_FIELDS: [Field; 7] = [
-    Field::Cro,
-    Field::ReferenceDate,
-    Field::ReferenceTime,
-    Field::CheckDigit,
-    Field::Identifier,
-    Field::Bids,
-    Field::Name,
-];
+const TAIL_FIELDS: [Field; 7] = {
+    let [_type, _sender, _recipient, tail @ ..] = Field::ALL;
+    tail
+};

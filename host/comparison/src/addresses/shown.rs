@@ -3,7 +3,9 @@
 use super::{is_wrong_by_second_five, is_wrong_by_slash};
 use independent::address::{first_five, LONG, SHORT};
 use independent::application::{Application, Field};
+use independent::envelope::split_field;
 use std::collections::BTreeMap;
+use std::iter::successors;
 
 const NOT_IN_PLACE: u64 = 309;
 const NOT_LATER: u64 = 302;
@@ -20,10 +22,17 @@ pub const NAMES: [&str; 8] = [
     "a long address returned",
 ];
 
-/// Whether a message is an announcement but for one address, which is long.
-pub fn is_long_announcement(message: &[u8]) -> bool {
-    let whole = independent::announcement::LENGTH + LONG - SHORT;
-    message.len() == whole && (message[8] == LONG as u8 || message[16] == LONG as u8)
+/// How many long addresses a message has that is as long as an announcement with them.
+pub fn long_addresses(message: &[u8]) -> usize {
+    let fields = successors(split_field(message), |(_, _, rest)| split_field(rest));
+    let addresses = fields.skip(1).take(2);
+    let long = addresses.filter(|(_, address, _)| address.len() == LONG).count();
+    let whole = independent::announcement::LENGTH + long * (LONG - SHORT);
+    if message.len() == whole {
+        long
+    } else {
+        0
+    }
 }
 
 /// The sender of the last accepted application of each code of a tender.

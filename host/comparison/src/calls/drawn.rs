@@ -1,6 +1,6 @@
 //! What the sequences must draw, for a book may be wrong just there.
 
-use crate::addresses::shown::is_long_announcement;
+use crate::addresses::shown::long_addresses;
 use crate::calls::book::WORDS;
 use crate::calls::independent_book::IndependentBook;
 use crate::calls::layout::{self, AMOUNTS, CODES, COUNT, FORM, STATE};
@@ -41,14 +41,15 @@ impl Drawn {
         }
     }
 
-    /// Counts arrays, words, damage and announcements with a long address.
+    /// Counts arrays, words, damage and announcements with long addresses.
     fn count_lent(&mut self, step: &Step) {
         let set = |first: usize, last: usize| {
             step.sets.iter().any(|&(word, _)| (first..=last).contains(&word))
         };
-        let is_long = matches!(&step.call,
-            Call::Open { message, .. } if is_long_announcement(message));
-        self.add("an announcement with a long address", is_long);
+        let long =
+            if let Call::Open { message, .. } = &step.call { long_addresses(message) } else { 0 };
+        self.add("an announcement with a long address", long == 1);
+        self.add("an announcement with two long addresses", long == 2);
         self.add("fewer words", step.words < WORDS);
         self.add("one word fewer", step.words == WORDS - 1);
         self.add("more words", step.words > WORDS);

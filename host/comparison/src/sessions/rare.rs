@@ -1,6 +1,6 @@
 //! What is rare in a session and must be drawn all the same, for a book may be wrong just there.
 
-use crate::addresses::shown::{is_long_announcement, Shown, NAMES};
+use crate::addresses::shown::{long_addresses, Shown, NAMES};
 use independent::announcement::Terms;
 use independent::application::{Application, Field, PLACES};
 use independent::award::{Bid, Side};
@@ -31,8 +31,9 @@ impl Drawn {
             if journal.step(tag, contents, &mut line).is_break() {
                 return;
             }
-            let is_long = tag == ANNOUNCEMENT && is_long_announcement(contents);
-            self.add("announcement with a long address", is_long);
+            let long = if tag == ANNOUNCEMENT { long_addresses(contents) } else { 0 };
+            self.add("announcement with a long address", long == 1);
+            self.add("announcement with two long addresses", long == 2);
             match tag {
                 ANNOUNCEMENT if line.is_empty() => self.announced(contents),
                 RECEPTION => self.received(contents.split_at(14), &line),

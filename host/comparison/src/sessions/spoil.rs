@@ -105,12 +105,15 @@ pub fn spoil_addresses(random: &mut Random, message: &mut [u8]) {
     fields.iter().for_each(|&field| addresses::spoil(random, contents(message, field)));
 }
 
-/// Gives an announcement a long sender or recipient, which only an application may have.
+/// Gives an announcement a long sender, a long recipient or both, which only an application may have.
 pub fn lengthen(random: &mut Random, message: &mut Vec<u8>) {
-    let (head, code) = random.pick(&[(6, 1000), (14, 90_001)]);
-    let text = addresses::text(random);
-    let mut long = [0; LONG];
-    Address::long(code, addresses::number(random), &text).fill(&mut long);
-    message[head + 2] = LONG as u8;
-    message.splice(head + HEADER..head + HEADER + 5, long);
+    // The recipient comes first, for its head moves when the sender is lengthened.
+    let both = [(14, 90_001), (6, 1000)];
+    for &(head, code) in random.pick(&[&both[..1], &both[1..], &both[..]]) {
+        let text = addresses::text(random);
+        let mut long = [0; LONG];
+        Address::long(code, addresses::number(random), &text).fill(&mut long);
+        message[head + 2] = LONG as u8;
+        message.splice(head + HEADER..head + HEADER + 5, long);
+    }
 }
