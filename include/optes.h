@@ -4,8 +4,9 @@
 // thread may write what it reads, or touch what it writes.
 // Refusals: a call that is refused returns the number of the refusal and changes nothing. Nothing else
 // can go wrong.
-// Pointers: each pointer is followed by how many bytes or numbers it points to. It must not be null,
-// even if it points to none. What a call writes must not overlap what it reads.
+// Pointers: each pointer is followed by how many bytes or numbers it points to, unless it points to a struct or
+// the comment says how many. It must not be null, even if it points to none. What a call writes must not overlap
+// what it reads.
 #ifndef OPTES_H
 #define OPTES_H
 
@@ -141,7 +142,7 @@ uint32_t optes_6g1_write(
 
 // Writes a 6G1 with addresses of either form. The length of each is OPTES_ADDRESS_SHORT, and then its branch and
 // its text are not looked at, or OPTES_ADDRESS_LONG. Another length, a branch of more than five digits and a text
-// that is not of OPTES_ADDRESS_TEXT_BYTES are OPTES_UNFIT. The message has 329 bytes and the two lengths, and a
+// that is not of OPTES_ADDRESS_TEXT_BYTES are OPTES_UNFIT. The message has 329 bytes plus the two lengths, and a
 // space of fewer is OPTES_NO_ROOM. All else is as for optes_6g1_write.
 uint32_t optes_6g1_write_addresses(
     uint64_t sender, uint64_t sender_length, uint64_t sender_branch,
@@ -255,18 +256,16 @@ static inline uint32_t optes_application_read(struct optes_application *a, const
     return OPTES_OK;
 }
 
-// Writes an application of which an address is long, for the function below. It is not put into its caller, where
-// the compiler would load what both of its calls need for either of them. Without optimization it is inline, since
-// gcc then keeps any other static function, and a host that does not call it would still need its archive.
-#ifdef __OPTIMIZE__
-__attribute__((noinline, unused)) static
-#else
-static inline
-#endif
-uint32_t optes_application_write_long(const struct optes_application *a, uint8_t *space, size_t n)
+// Writes the application to the n bytes of the space, as optes_6g1_write_addresses does; it takes
+// optes_application_length bytes. While unread is not 0 it returns OPTES_UNFIT before anything else, since zeros
+// would stand for what the message did not have. It does not look at well_formed and the has_ flags: it writes
+// the numbers that stand there.
+static inline uint32_t optes_application_write(const struct optes_application *a, uint8_t *space, size_t n)
 {
     const struct optes_place *p = a->places;
     const struct optes_address *from = &a->sender_address, *to = &a->recipient_address;
+    if (a->unread != 0)
+        return OPTES_UNFIT;
     return optes_6g1_write_addresses(
         a->sender, optes_address_length(from), from->branch,
         a->recipient, optes_address_length(to), to->branch,
@@ -276,29 +275,6 @@ uint32_t optes_application_write_long(const struct optes_application *a, uint8_t
         p[0].amount, p[1].amount, p[2].amount, p[3].amount, p[4].amount,
         p[5].amount, p[6].amount, p[7].amount, p[8].amount, p[9].amount,
         from->text, OPTES_ADDRESS_TEXT_BYTES, to->text, OPTES_ADDRESS_TEXT_BYTES,
-        a->type, OPTES_6G1_TYPE_BYTES,
-        a->identifier, OPTES_6G1_IDENTIFIER_BYTES,
-        a->name, OPTES_6G1_NAME_BYTES,
-        space, n);
-}
-
-// Writes the application to the n bytes of the space, as optes_6g1_write_addresses does; it takes
-// optes_application_length bytes. While unread is not 0 it returns OPTES_UNFIT before anything else, since zeros
-// would stand for what the message did not have. It does not look at well_formed and the has_ flags: it writes
-// the numbers that stand there.
-static inline uint32_t optes_application_write(const struct optes_application *a, uint8_t *space, size_t n)
-{
-    const struct optes_place *p = a->places;
-    if (a->unread != 0)
-        return OPTES_UNFIT;
-    if (a->sender_address.is_long != 0 || a->recipient_address.is_long != 0)
-        return optes_application_write_long(a, space, n);
-    return optes_6g1_write(
-        a->sender, a->recipient, a->cro, a->date, a->time, a->check,
-        p[0].rate, p[1].rate, p[2].rate, p[3].rate, p[4].rate,
-        p[5].rate, p[6].rate, p[7].rate, p[8].rate, p[9].rate,
-        p[0].amount, p[1].amount, p[2].amount, p[3].amount, p[4].amount,
-        p[5].amount, p[6].amount, p[7].amount, p[8].amount, p[9].amount,
         a->type, OPTES_6G1_TYPE_BYTES,
         a->identifier, OPTES_6G1_IDENTIFIER_BYTES,
         a->name, OPTES_6G1_NAME_BYTES,
