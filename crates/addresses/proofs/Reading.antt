@@ -13,7 +13,7 @@ use Rattle.digits.specs.declared.Digits.{Digits}
 use Rattle.digits.specs.declared.Digits.the-variants.{Number, None}
 use Rattle.digits.specs.Decimal.{allDigits, numberOf, digitsOf, isNumber, numberIn}
 use Rattle.addresses.specs.declared.Address.the-variants.{Malformed, Code, Branch}
-use Rattle.addresses.specs.Addresses.{codeAddress, isBranch, branchAddress, addressOf}
+use Rattle.addresses.specs.Addresses.{codeAddress, isBranch, branchAddress, addressOf, codeDigits}
 
 -- a part of the first n of a list
 pub part-of : (k w n : ℕ) (x : List ℕ) → k + w ≤ n → take w (drop k (take n x)) ≡ take w (drop k x)
@@ -97,3 +97,11 @@ module _ (m : List ℕ) (from w : ℕ) where
 pub five-is : (s : List ℕ) → length s ≡ 5 → codeAddress (digitsOf s) ≡ addressOf s
 unfolding addressOf
 five-is s e = rw (eq-eqb (length s) 5 e)
+
+-- and their code is what they hold
+held-by-code : (d : Digits) → codeDigits (codeAddress d) ≡ d
+held-by-code None = refl
+held-by-code (Number n) = refl
+
+pub code-of-five : (s : List ℕ) → length s ≡ 5 → digitsOf s ≡ codeDigits (addressOf s)
+code-of-five s e = sym (ap codeDigits (sym (five-is s e)) ∙ held-by-code (digitsOf s))

@@ -57,8 +57,18 @@ codeIn Malformed = 0
 codeIn (Code n) = n
 codeIn (Branch c b x y) = c
 
+-- the same as what a digit field holds: the number of an address is its code
+abbrev pub codeDigits : Address → Digits
+codeDigits Malformed = None
+codeDigits (Code n) = Number n
+codeDigits (Branch c b x y) = Number c
+
 -- the second number of a long form
 abbrev pub branchIn : Address → ℕ
 branchIn Malformed = 0
 branchIn (Code n) = 0
 branchIn (Branch c b x y) = b
+
+-- where the two characters of a long form start: behind its digits and slashes
+abbrev pub textStart : ℕ
+textStart = 12

@@ -1,8 +1,9 @@
 // The address of a sender or recipient: a code of five digits, or the long form with a branch.
 pub mod internal;
 
+use digits::Digits;
 ghost use mathlib.Core.Path.{_≡_};
-ghost use Rattle.addresses.specs.Addresses.{isAddress, codeIn, branchIn, addressFits, addressLength};
+ghost use Rattle.addresses.specs.Addresses.{isAddress, codeIn, codeDigits, branchIn, addressFits, addressLength, textStart};
 
 // What an address holds: a code, or a code, a branch and two characters; Malformed where a byte is out of place.
 pub enum Address {
@@ -30,6 +31,17 @@ pub fn code_of(a: Address) -> u64
         Address::Malformed => 0,
         Address::Code(n) => n,
         Address::Branch(n, _, _, _) => n,
+    }
+}
+
+// The code of an address, as what a digit field holds.
+pub fn code_digits(a: Address) -> Digits
+    ensures { λ r. ⌜ r ≡ codeDigits a ⌝ }
+{
+    match a {
+        Address::Malformed => Digits::None,
+        Address::Code(n) => Digits::Number(n),
+        Address::Branch(n, _, _, _) => Digits::Number(n),
     }
 }
 
@@ -64,4 +76,11 @@ pub fn address_length(a: Address) -> usize
         Address::Code(_) => 5,
         Address::Branch(_, _, _, _) => 14,
     }
+}
+
+// Where the two characters of a long form start.
+pub fn text_start() -> usize
+    ensures { λ r. ⌜ r ≡ textStart ⌝ }
+{
+    12
 }

@@ -1,23 +1,26 @@
 -- Laws of the fields of a readable 6G1: the first three by their lengths, the others by their distance from its end. Assumes nothing.
 use mathlib.Core.Path.{_≡_, refl, sym, ap, ap₂, subst, _∙_}
 use mathlib.Core.Logic.{_≢_, _⊎_, ⊎-elim}
-use mathlib.Core.Bool.{Bool, true, false, _&&_, false≢true}
+use mathlib.Core.Bool.{Bool, true, false, _&&_}
 use mathlib.Core.List.{List, [], _∷_}
-use Prim.Native.Nat.{ℕ, _+_, _-_, _≤_, _<_}
+use Prim.Native.Nat.{ℕ, _+_, _*_, _-_, _≤_, _<_}
 use native.Mathlib.Omega.{arith}
 use lib.Dec.{eqb}
 use lib.ListN.{length, take, drop, length-drop}
 use lib.Seq.{drop-drop, take-all, take-take, length-take-le}
+use borrow.Author.Tests.{eqb-true, eq-eqb}
 use Rattle.laws.proofs.Tests.{same-test}
+use Rattle.digits.specs.Decimal.{digitsOf}
 use Rattle.layout.specs.Fields.{FieldEntry, oneOf, IsOneOf, lengthAt, starts, readable, offset, content, whole}
-use Rattle.layout.proofs.Fields.{starts-fits, starts-length}
+use Rattle.layout.proofs.Fields.{starts-fits, starts-length, offset-within}
 use Rattle.layout.proofs.ReturnTrip.{first, rest, Stands, is-one-of, field-whole, field-length}
 use Rattle.layout.proofs.Fixed.{fixed, first-length, bytesIn}
-use Rattle.layout.proofs.Ends.{readable-split, head-length, offset-next, offset-from-end, content-from-end}
+use Rattle.layout.proofs.Ends.{readable-split, head-length, offset-next, offset-from-end}
+use Rattle.addresses.specs.Addresses.{addressOf, codeDigits}
+use Rattle.addresses.proofs.Reading.{part-of, code-of-five}
 use Rattle.envelope.specs.declared.application.Field.{Field}
 use Rattle.envelope.specs.declared.application.Field.the-variants.{MessageType, Sender, Recipient, Cro, Date, Time, Check, Identifier, Bids, Name}
 use Rattle.envelope.specs.Application.{one, either, entryOf, layout6G1, position, bytesOf}
-use Rattle.envelope.specs.Promise.{isLast, start, width}
 
 -- the first fields, and the last, which have one length each
 abbrev pub first6G1 : List FieldEntry
@@ -25,6 +28,31 @@ first6G1 = entryOf MessageType ∷ entryOf Sender ∷ entryOf Recipient ∷ []
 
 abbrev pub last6G1 : List (ℕ × ℕ)
 last6G1 = (0x02, 11) ∷ (0x31, 8) ∷ (0x60, 6) ∷ (0x10, 5) ∷ (0x70, 11) ∷ (0x76, 240) ∷ (0x7f, 15) ∷ []
+
+-- where the bytes of a field start, and how many they are, as the code has it: the last fields by their distance from the end
+abbrev pub startIn : Field → List ℕ → ℕ
+startIn MessageType m = 3
+startIn Sender m = 9
+startIn Recipient m = 12 + lengthAt (drop 6 m)
+startIn Cro m = length m - 314
+startIn Date m = length m - 300
+startIn Time m = length m - 289
+startIn Check m = length m - 280
+startIn Identifier m = length m - 272
+startIn Bids m = length m - 258
+startIn Name m = length m - 15
+
+abbrev pub widthIn : Field → List ℕ → ℕ
+widthIn MessageType m = 3
+widthIn Sender m = lengthAt (drop 6 m)
+widthIn Recipient m = lengthAt (drop (9 + lengthAt (drop 6 m)) m)
+widthIn Cro m = 11
+widthIn Date m = 8
+widthIn Time m = 6
+widthIn Check m = 5
+widthIn Identifier m = 11
+widthIn Bids m = 240
+widthIn Name m = 15
 
 -- one of the two lengths of an address, as the reader of addresses asks for it
 abbrev FiveOrFourteen : ℕ → Type 0
@@ -134,9 +162,6 @@ module _ (m : List ℕ) (h : readable layout6G1 m ≡ true) where
   recipient-at : offset 2 m ≡ 9 + lengthAt (drop 6 m)
   recipient-at = offset-next 1 m ∙ rw sender-at (omega arith)
 
-  pub addresses-at : (offset 1 m ≡ 6) × (offset 2 m ≡ 9 + lengthAt (drop 6 m))
-  addresses-at = (sender-at, recipient-at)
-
   recipient-length : FiveOrFourteen (lengthAt (drop (9 + lengthAt (drop 6 m)) m))
   recipient-length = five-or-fourteen (lengthAt (drop (9 + lengthAt (drop 6 m)) m)) (rw recipient-at at (head-length layout6G1 m h 2 (entryOf Recipient) (placed Recipient)))
 
@@ -196,48 +221,92 @@ module _ (m : List ℕ) (h : readable layout6G1 m ≡ true) where
   pub sender-within : (5 ≤ length (bytesOf Sender m)) × (length (bytesOf Sender m) ≤ 14)
   sender-within = (omega (arith, length-sender, sender-length .1), omega (arith, length-sender, sender-length .2))
 
-  -- in 339 bytes both are short
-  pub short-addresses : length m ≡ 339 → (bytesOf Sender m ≡ take 5 (drop 9 m)) × (bytesOf Recipient m ≡ take 5 (drop 17 m))
-  short-addresses e =
-      let l = by-heads in
-      let w : lengthAt (drop 6 m) ≡ 5 = omega (arith, sender-length .1, recipient-length .1) in
-      let v : lengthAt (drop (9 + lengthAt (drop 6 m)) m) ≡ 5 = omega (arith, sender-length .1, recipient-length .1) in
-      (sender-bytes ∙ ap (λ (x : ℕ). take x (drop 9 m)) w, recipient-bytes ∙ ap₂ (λ (x y : ℕ). take y (drop (12 + x) m)) w v)
-
   -- the code that both forms of a sender start with
   pub code-bytes : take 5 (drop 9 m) ≡ take 5 (bytesOf Sender m)
   code-bytes = sym (ap (take 5) sender-bytes ∙ take-take 5 (lengthAt (drop 6 m)) (drop 9 m) (sender-length .1))
 
-  -- the last 339 bytes have every field but the first three at one index
-  last-field : (k : ℕ) (f : ℕ × ℕ) (fs : List (ℕ × ℕ)) (from : ℕ) → k ≤ length layout6G1 → drop k layout6G1 ≡ fixed (f ∷ fs) → 3 ≤ from → from + bytesIn (f ∷ fs) ≡ 342 → content k m ≡ take (f .1) (drop from (drop (length m - 339) m))
-  last-field k f fs from l e t q =
+  -- where the bytes of each field start
+  from-end : (k : ℕ) (fs : List (ℕ × ℕ)) (d : ℕ) → k ≤ length layout6G1 → drop k layout6G1 ≡ fixed fs → bytesIn fs ≡ 3 + d → length m - d ≡ offset k m + 3
+  from-end k fs d l e q = omega (arith, offset-from-end layout6G1 m k fs h l e)
+
+  pub start-is : (f : Field) → startIn f m ≡ offset (position f) m + 3
+  unfolding layout6G1 fixed bytesIn offset
+  start-is MessageType = refl
+  start-is Sender = omega (arith, sender-at)
+  start-is Recipient = omega (arith, recipient-at)
+  start-is Cro = from-end 3 last6G1 314 (omega arith) refl refl
+  start-is Date = from-end 4 (drop 1 last6G1) 300 (omega arith) refl refl
+  start-is Time = from-end 5 (drop 2 last6G1) 289 (omega arith) refl refl
+  start-is Check = from-end 6 (drop 3 last6G1) 280 (omega arith) refl refl
+  start-is Identifier = from-end 7 (drop 4 last6G1) 272 (omega arith) refl refl
+  start-is Bids = from-end 8 (drop 5 last6G1) 258 (omega arith) refl refl
+  start-is Name = from-end 9 (drop 6 last6G1) 15 (omega arith) refl refl
+
+  -- and how many they are
+  pub width-is : (f : Field) → widthIn f m ≡ length (bytesOf f m)
+  width-is MessageType = sym (length-field MessageType)
+  width-is Sender = sym length-sender
+  width-is Recipient = sym length-recipient
+  width-is Cro = sym (length-field Cro)
+  width-is Date = sym (length-field Date)
+  width-is Time = sym (length-field Time)
+  width-is Check = sym (length-field Check)
+  width-is Identifier = sym (length-field Identifier)
+  width-is Bids = sym (length-field Bids)
+  width-is Name = sym (length-field Name)
+
+  -- the bytes of a field, as a part of the message
+  pub part-is : (f : Field) (at w : ℕ) → at ≡ offset (position f) m + 3 → w ≡ length (bytesOf f m) → (at + w ≤ length m) × (take (at + w - at) (drop at m) ≡ bytesOf f m)
+  unfolding content
+  part-is f at w p q =
+      let o = offset (position f) m in
+      let n = lengthAt (drop o m) in
+      let l = offset-within (position f) m o (whole-field f) refl in
+      let e : w ≡ n = q ∙ length-take-le n (drop 3 (drop o m)) (omega (arith, l, length-drop 3 (drop o m), length-drop o m)) in
+      let i : at + w - at ≡ n = omega arith in
+      (omega arith, ap₂ (λ (x y : ℕ). take x (drop y m)) i p ∙ ap (take n) (sym (drop-drop 3 o m)))
+
+  pub field-is : (f : Field) (at : ℕ) → at ≡ offset (position f) m + 3 → (at + widthIn f m ≤ length m) × (take (at + widthIn f m - at) (drop at m) ≡ bytesOf f m)
+  field-is f at p = part-is f at (widthIn f m) p (width-is f)
+
+  -- a place, in the same way
+  pub place-is : (k at : ℕ) → k < 10 → at ≡ length m - 258 + 24 * k → (at + 24 ≤ length m) × (take (at + 24 - at) (drop at m) ≡ take 24 (drop (24 * k) (bytesOf Bids m)))
+  place-is k at l p =
+      let from = length m - 258 in
       let n = at-least-339 in
-      let at = length m - 339 + from - 3 in
-      let i : at + 3 ≡ length m - 339 + from = omega arith in
-      content-from-end layout6G1 m k f fs at h l e (omega arith) ∙ ap (λ (j : ℕ). take (f .1) (drop j m)) i ∙ sym (ap (take (f .1)) (drop-drop from (length m - 339) m))
+      let i : at + 24 - at ≡ 24 = omega arith in
+      let j : from + 240 - from ≡ 240 = omega arith in
+      let bids : take 240 (drop from m) ≡ bytesOf Bids m = ap (λ (x : ℕ). take x (drop from m)) (sym j) ∙ field-is Bids from (start-is Bids) .1 in
+      let inside = part-of (24 * k) 24 240 (drop from m) (omega arith) ∙ ap (take 24) (drop-drop (24 * k) from m) in
+      (omega arith, ap₂ (λ (x y : ℕ). take x (drop y m)) i p ∙ sym inside ∙ ap (λ (s : List ℕ). take 24 (drop (24 * k) s)) bids)
 
-  pub last-bytes : (f : Field) → isLast f ≡ true → bytesOf f m ≡ take (width f) (drop (start f) (drop (length m - 339) m))
-  unfolding layout6G1 fixed bytesIn
-  last-bytes MessageType e = absurd (false≢true e)
-  last-bytes Sender e = absurd (false≢true e)
-  last-bytes Recipient e = absurd (false≢true e)
-  last-bytes Cro e = last-field 3 (0x02, 11) (drop 1 last6G1) 25 (omega arith) refl (omega arith) refl
-  last-bytes Date e = last-field 4 (0x31, 8) (drop 2 last6G1) 39 (omega arith) refl (omega arith) refl
-  last-bytes Time e = last-field 5 (0x60, 6) (drop 3 last6G1) 50 (omega arith) refl (omega arith) refl
-  last-bytes Check e = last-field 6 (0x10, 5) (drop 4 last6G1) 59 (omega arith) refl (omega arith) refl
-  last-bytes Identifier e = last-field 7 (0x70, 11) (drop 5 last6G1) 67 (omega arith) refl (omega arith) refl
-  last-bytes Bids e = last-field 8 (0x76, 240) (drop 6 last6G1) 81 (omega arith) refl (omega arith) refl
-  last-bytes Name e = last-field 9 (0x7f, 15) [] 324 (omega arith) refl (omega arith) refl
+  -- both addresses are short in 339 bytes only, and each of them then
+  abbrev Short : Bool
+  Short = eqb (length (bytesOf Sender m) + length (bytesOf Recipient m)) 10
 
-  -- and the code has them as a part up to the end
-  last-part : take (length m - (length m - 339)) (drop (length m - 339) m) ≡ drop (length m - 339) m
-  last-part = take-all (length m - (length m - 339)) (drop (length m - 339) m) (omega (arith, at-least-339, length-drop (length m - 339) m))
+  pub short-test : eqb (length m) 339 ≡ Short
+  short-test =
+      let s = length (bytesOf Sender m) in
+      let r = length (bytesOf Recipient m) in
+      let l = length-6g1 in
+      same-test (eqb (length m) 339) Short (λ t. let e = eqb-true (length m) 339 t in eq-eqb (s + r) 10 (omega arith)) (λ t. let e = eqb-true (s + r) 10 t in eq-eqb (length m) 339 (omega arith))
 
-  pub length-last : length (take (length m - (length m - 339)) (drop (length m - 339) m)) ≡ 339
-  length-last = ap length last-part ∙ omega (arith, at-least-339, length-drop (length m - 339) m)
+  pub short-addresses : Short ≡ true → (length (bytesOf Sender m) ≡ 5) × (length (bytesOf Recipient m) ≡ 5)
+  short-addresses t =
+      let e = eqb-true (length (bytesOf Sender m) + length (bytesOf Recipient m)) 10 t in
+      let r : 5 ≤ length (bytesOf Recipient m) = omega (arith, length-recipient, recipient-length .1) in
+      (omega (arith, sender-within .0), omega (arith, sender-within .0))
 
-  pub last-read : (f : Field) → isLast f ≡ true → take (width f) (drop (start f) (take (length m - (length m - 339)) (drop (length m - 339) m))) ≡ bytesOf f m
-  last-read f e = ap (λ (x : List ℕ). take (width f) (drop (start f) x)) last-part ∙ sym (last-bytes f e)
+  pub short-sender : Short ≡ true → digitsOf (take 5 (drop 9 m)) ≡ codeDigits (addressOf (bytesOf Sender m))
+  short-sender t =
+      let e = short-addresses t .0 in
+      ap digitsOf (part-is Sender 9 5 (start-is Sender) (sym e) .1) ∙ code-of-five (bytesOf Sender m) e
+
+  pub short-recipient : Short ≡ true → digitsOf (take 5 (drop 17 m)) ≡ codeDigits (addressOf (bytesOf Recipient m))
+  short-recipient t =
+      let e = short-addresses t in
+      let i : 17 ≡ offset 2 m + 3 = omega (arith, start-is Recipient, length-sender, e .0) in
+      ap digitsOf (part-is Recipient 17 5 i (sym (e .1)) .1) ∙ code-of-five (bytesOf Recipient m) (e .1)
 
 -- what is under 339 bytes is not readable
 pub short-6g1 : (m : List ℕ) → length m < 339 → false ≡ readable layout6G1 m

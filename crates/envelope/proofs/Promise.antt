@@ -1,25 +1,16 @@
 -- What the envelope promises holds. Assumes nothing.
-use Rattle.envelope.specs.Promise.{MessageLength, ShortestMessage, LongestMessage, SenderLength, LastBytes, AddressesAt, ShortAddresses, FieldWhole, FieldLength, NumberField}
+use Rattle.envelope.specs.Promise.{MessageLength, LongestMessage, SenderLength, ShortAddresses, FieldWhole, FieldLength, NumberField}
 use Rattle.envelope.proofs.Fields6G1 as fields
 use Rattle.envelope.proofs.Writing as writing
 
 pub message-length : MessageLength
 message-length = fields.length-6g1
 
-pub shortest-message : ShortestMessage
-shortest-message = fields.at-least-339
-
 pub longest-message : LongestMessage
 longest-message = fields.at-most-357
 
 pub sender-length : SenderLength
 sender-length = fields.sender-within
-
-pub last-bytes : LastBytes
-last-bytes = fields.last-bytes
-
-pub addresses-at : AddressesAt
-addresses-at = fields.addresses-at
 
 pub short-addresses : ShortAddresses
 short-addresses = fields.short-addresses

@@ -1,7 +1,11 @@
 // A 6G1, the application: read from bytes and written from numbers and texts.
 use crate::internal::bytes_in;
+use crate::internal::check_of;
+use crate::internal::cro_of;
+use crate::internal::date_of;
 use crate::internal::recipient_of;
 use crate::internal::sender_of;
+use crate::internal::time_of;
 use addresses::Address;
 use addresses::address_fits;
 use addresses::address_length;
@@ -17,8 +21,6 @@ use places::Rate;
 use places::internal::put_places;
 use places::internal::read_places;
 use places::places_fit;
-use words::internal::long_number_at;
-use words::internal::number_at;
 use words::internal::put_digits;
 use words::internal::put_eight;
 use words::internal::put_text;
@@ -119,21 +121,18 @@ pub fn bytes(m: &[u8], f: Field) -> &[u8]
     if is_6g1(m) { bytes_in(m, f) } else { &m[0..0] }
 }
 
-// The addresses and numbers of a readable 6G1. Its last 339 bytes have every field but the first three at one index.
+// The addresses and numbers of a readable 6G1.
 fn fields_of(m: &[u8]) -> Fields
     requires { ⌜ readable layout6G1 (now m) ≡ true ⌝ }
     ensures { λ r. ⌜ r ≡ fieldsOf (now (m .entry)) ⌝ }
 {
     let sender = sender_of(m);
     let recipient = recipient_of(m);
-    let n = m.len();
-    let k = n - 339;
-    let t = &m[k..n];
-    let cro = long_number_at(t, 25, 36);
-    let date = number_at(t, 39, 47);
-    let time = number_at(t, 50, 56);
-    let check = number_at(t, 59, 64);
-    let places = read_places(&t[81..321]);
+    let cro = cro_of(m);
+    let date = date_of(m);
+    let time = time_of(m);
+    let check = check_of(m);
+    let places = read_places(bytes_in(m, Field::Bids));
     Fields {
         sender,
         recipient,

@@ -10,10 +10,10 @@ use lib.ListN.{length, take, drop, getD, length-append, length-drop, take-append
 use lib.Seq.{drop-drop, drop-append-le}
 use borrow.Author.Tests.{eqb-true, eq-eqb}
 use Rattle.laws.proofs.Tests.{and-left, and-right, same-test}
-use Rattle.layout.specs.Fields.{FieldEntry, oneOf, IsOneOf, lengthAt, starts, readable, offset, content}
+use Rattle.layout.specs.Fields.{FieldEntry, oneOf, IsOneOf, lengthAt, starts, readable, offset}
 use Rattle.layout.proofs.Fields.{starts-is, starts-fits, starts-tag, starts-length}
 use Rattle.layout.proofs.ReturnTrip.{first, rest, nil, Stands, is-one-of}
-use Rattle.layout.proofs.Fixed.{fixed, bytesIn, length-fixed, first-length}
+use Rattle.layout.proofs.Fixed.{fixed, bytesIn, length-fixed}
 
 -- a first field with more bytes behind it
 module _ (s t : List ℕ) (h : 3 ≤ length s) where
@@ -101,14 +101,6 @@ module _ (es : List FieldEntry) (m : List ℕ) (k : ℕ) (fs : List (ℕ × ℕ)
 
   pub offset-from-end : offset k m + bytesIn fs ≡ length m
   offset-from-end = omega (arith, rest-at es m h k l .0, length-drop (offset k m) m, length-fixed fs (drop (offset k m) m) last-readable)
-
-pub content-from-end : (es : List FieldEntry) (m : List ℕ) (k : ℕ) (f : ℕ × ℕ) (fs : List (ℕ × ℕ)) (at : ℕ) → readable es m ≡ true → k ≤ length es → drop k es ≡ fixed (f ∷ fs) → at + bytesIn (f ∷ fs) ≡ length m → content k m ≡ take (f .1) (drop (at + 3) m)
-unfolding content
-content-from-end es m k f fs at h l e q =
-    let o = offset-from-end es m k (f ∷ fs) h l e in
-    let n = first-length f fs (drop (offset k m) m) (last-readable es m k (f ∷ fs) h l e) in
-    let i : offset k m ≡ at = omega arith in
-    rw (n, drop-drop, i)
 
 -- the head of field k gives one of its entry's lengths
 pub head-length : (es : List FieldEntry) (m : List ℕ) → readable es m ≡ true → (k : ℕ) (e : FieldEntry) → Stands es k e → IsOneOf (e .lengths) (lengthAt (drop (offset k m) m))

@@ -13,6 +13,7 @@ use Rattle.output.specs.Output.{Wrote}
 use Rattle.output.proofs.Output.{then, from-start}
 use Rattle.addresses.specs.declared.Address.{Address}
 use Rattle.addresses.specs.declared.Address.the-variants.{Malformed, Code, Branch}
+use Rattle.addresses.specs.Addresses.{textStart}
 use Rattle.envelope.specs.Application.{reading}
 use Rattle.numbers.specs.ByNumber.{flag, startOf}
 use Rattle.numbers.specs.Numbers.{digitNumbers, placeNumbers, fieldsNumbers, placesNumbers, textStarts, addressNumbers, addressesNumbers, numbersOf}
@@ -47,8 +48,8 @@ three (Branch c b x y) text = refl
 pub length-numbers : (m : List ℕ) → length (numbersOf m) ≡ 51
 unfolding numbersOf fieldsNumbers digitNumbers placesNumbers placeNumbers textStarts addressesNumbers
 length-numbers m =
-    let s = three (reading m .1 .sender) (startOf 1 m + 12) in
-    let r = three (reading m .1 .recipient) (startOf 2 m + 12) in
+    let s = three (reading m .1 .sender) (startOf 1 m + textStart) in
+    let r = three (reading m .1 .recipient) (startOf 2 m + textStart) in
     simp (length-append, s, r)
 
 -- the digit fields in the two parts in which they are written

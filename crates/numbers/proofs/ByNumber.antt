@@ -13,7 +13,7 @@ use Rattle.digits.specs.declared.Digits.the-variants.{None}
 use Rattle.digits.specs.Decimal.{digitsOf}
 use Rattle.layout.specs.Fields.{readable, content, whole}
 use Rattle.layout.proofs.ReturnTrip.{whole-of}
-use Rattle.addresses.specs.Addresses.{addressOf}
+use Rattle.addresses.specs.Addresses.{addressOf, codeDigits}
 use Rattle.places.specs.declared.Place.{Place}
 use Rattle.places.specs.Bids.{malformed, placeOf, placesIn, columns, placesOf}
 use Rattle.places.proofs.Reading.{place-at}
@@ -22,7 +22,7 @@ use Rattle.envelope.specs.declared.application.Fields.{Fields}
 use Rattle.envelope.specs.Refusals.{firstHolding}
 use Rattle.envelope.specs.Application.{layout6G1, bytesOf, fieldsOf, noFields, reading}
 use Rattle.envelope.proofs.Promise.{whole-field, length-field}
-use Rattle.numbers.specs.ByNumber.{hasField, codeDigits, numbered, fieldDigits, placeNumbered}
+use Rattle.numbers.specs.ByNumber.{hasField, numbered, fieldDigits, placeNumbered}
 
 -- a field that is there is whole
 pub whole-there : (k : ℕ) (m : List ℕ) → hasField k m ≡ true → whole k m ≡ true

@@ -5,10 +5,9 @@ use Prim.Native.Nat.{ℕ, _+_}
 use lib.Dec.{ltb}
 use lib.ListN.{getD}
 use Rattle.digits.specs.declared.Digits.{Digits}
-use Rattle.digits.specs.declared.Digits.the-variants.{Number, None}
+use Rattle.digits.specs.declared.Digits.the-variants.{None}
 use Rattle.layout.specs.Fields.{readable, offset}
-use Rattle.addresses.specs.declared.Address.{Address}
-use Rattle.addresses.specs.declared.Address.the-variants.{Malformed, Code, Branch}
+use Rattle.addresses.specs.Addresses.{codeDigits}
 use Rattle.places.specs.declared.Place.{Place}
 use Rattle.places.specs.declared.Places.{Places}
 use Rattle.envelope.specs.declared.application.Fields.{Fields}
@@ -26,12 +25,6 @@ hasField k m = readable layout6G1 m && ltb k 10
 -- 'each field's bytes': where they start
 unfoldable pub startOf : ℕ → List ℕ → ℕ
 startOf k m = cond (hasField k m) (offset k m + 3) 0
-
--- the number of an address is its code
-abbrev pub codeDigits : Address → Digits
-codeDigits Malformed = None
-codeDigits (Code n) = Number n
-codeDigits (Branch c b x y) = Number c
 
 -- the digit fields of a reading by their numbers; field 0, the type, and those after 6 have none
 unfoldable pub numbered : ℕ → Fields → Digits

@@ -6,6 +6,7 @@ use Rattle.digits.specs.declared.Digits.{Digits}
 use Rattle.digits.specs.Decimal.{isNumber, numberIn}
 use Rattle.addresses.specs.declared.Address.{Address}
 use Rattle.addresses.specs.declared.Address.the-variants.{Malformed, Code, Branch}
+use Rattle.addresses.specs.Addresses.{textStart}
 use Rattle.places.specs.declared.Place.{Place}
 use Rattle.envelope.specs.Application.{reading}
 use Rattle.numbers.specs.ByNumber.{flag, startOf, fieldDigits, placeAt}
@@ -43,9 +44,9 @@ addressNumbers Malformed text = 0 ∷ 0 ∷ 0 ∷ []
 addressNumbers (Code n) text = 0 ∷ 0 ∷ 0 ∷ []
 addressNumbers (Branch c b x y) text = 1 ∷ b ∷ text ∷ []
 
--- sender and recipient; the characters stand behind the twelve bytes of the numbers and slashes
+-- sender and recipient
 unfoldable pub addressesNumbers : List ℕ → List ℕ
-addressesNumbers m = addressNumbers (reading m .1 .sender) (startOf 1 m + 12) ++ addressNumbers (reading m .1 .recipient) (startOf 2 m + 12)
+addressesNumbers m = addressNumbers (reading m .1 .sender) (startOf 1 m + textStart) ++ addressNumbers (reading m .1 .recipient) (startOf 2 m + textStart)
 
 -- the 51 numbers of a message
 unfoldable pub numbersOf : List ℕ → List ℕ

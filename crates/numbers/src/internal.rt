@@ -1,16 +1,22 @@
-// The numbers of a readable 6G1, stored one after the other. Its last 339 bytes have every field but the
-// first three at one index, so that their bytes are parts at fixed indices of these.
+// The numbers of a readable 6G1, stored one after the other.
 use addresses::Address;
+use addresses::text_start;
 use digits::Digits;
 use digits::has_number;
 use digits::number_of;
+use envelope::application::Field;
+use envelope::internal::both_short;
+use envelope::internal::check_of;
+use envelope::internal::cro_of;
+use envelope::internal::date_of;
+use envelope::internal::place_of;
+use envelope::internal::recipient_digits;
 use envelope::internal::recipient_of;
+use envelope::internal::sender_digits;
 use envelope::internal::sender_of;
-use layout::internal::length_at;
+use envelope::internal::start_of;
+use envelope::internal::time_of;
 use places::Place;
-use places::internal::read_place;
-use words::internal::long_number_at;
-use words::internal::number_at;
 ghost use mathlib.Core.Path.{_≡_};
 ghost use mathlib.Core.Bool.{true};
 ghost use mathlib.Core.List.{[], _∷_};
@@ -19,7 +25,6 @@ ghost use lib.ListN.{length, set};
 ghost use Rattle.output.specs.Output.{Wrote};
 ghost use Rattle.layout.specs.Fields.{readable};
 ghost use Rattle.envelope.specs.Application.{layout6G1};
-ghost use Rattle.numbers.specs.ByNumber.{codeDigits};
 ghost use Rattle.numbers.specs.Numbers.{digitNumbers, placeNumbers, placesNumbers, textStarts, addressNumbers, addressesNumbers, numbersOf, inArray};
 ghost use Rattle.numbers.specs.Codes.{codesNumbers, lastNumbers};
 
@@ -51,36 +56,13 @@ fn put_number(numbers: &mut [u64], at: usize, d: Digits) -> usize
     put(numbers, flag, has_number(d) as u64)
 }
 
-// The code of an address, as what a digit field holds.
-pub fn code_digits(a: Address) -> Digits
-    ensures { λ r. ⌜ r ≡ codeDigits a ⌝ }
-{
-    match a {
-        Address::Malformed => Digits::None,
-        Address::Code(n) => Digits::Number(n),
-        Address::Branch(n, _, _, _) => Digits::Number(n),
-    }
-}
-
-// Writes the codes of sender and recipient of a message of 339 bytes, in which both are short.
-fn put_short_codes(numbers: &mut [u64], m: &[u8]) -> usize
-    requires { ⌜ (readable layout6G1 (now m) ≡ true) × (length (now m) ≡ 339) × (4 ≤ length (now numbers)) ⌝ }
-    ensures { λ r. ⌜ Wrote (now (numbers .entry)) 0 (codesNumbers (now (m .entry))) (now (numbers .exit)) r × (r ≡ 4) ⌝ }
-{
-    let recipient = put_number(numbers, 0, number_at(m, 9, 14));
-    put_number(numbers, recipient, number_at(m, 17, 22))
-}
-
 // Writes the codes of sender and recipient.
 fn put_codes(numbers: &mut [u64], m: &[u8]) -> usize
     requires { ⌜ (readable layout6G1 (now m) ≡ true) × (4 ≤ length (now numbers)) ⌝ }
     ensures { λ r. ⌜ Wrote (now (numbers .entry)) 0 (codesNumbers (now (m .entry))) (now (numbers .exit)) r × (r ≡ 4) ⌝ }
 {
-    if m.len() == 339 {
-        return put_short_codes(numbers, m);
-    }
-    let recipient = put_number(numbers, 0, code_digits(sender_of(m)));
-    put_number(numbers, recipient, code_digits(recipient_of(m)))
+    let recipient = put_number(numbers, 0, sender_digits(m));
+    put_number(numbers, recipient, recipient_digits(m))
 }
 
 // Writes the numbers of the four digit fields after them.
@@ -88,13 +70,10 @@ fn put_fields(numbers: &mut [u64], at: usize, m: &[u8]) -> usize
     requires { ⌜ (readable layout6G1 (now m) ≡ true) × (at + 8 ≤ length (now numbers)) ⌝ }
     ensures { λ r. ⌜ Wrote (now (numbers .entry)) at (lastNumbers (now (m .entry))) (now (numbers .exit)) r × (r ≡ at + 8) ⌝ }
 {
-    let n = m.len();
-    let k = n - 339;
-    let t = &m[k..n];
-    let date = put_number(numbers, at, long_number_at(t, 25, 36));
-    let time = put_number(numbers, date, number_at(t, 39, 47));
-    let check = put_number(numbers, time, number_at(t, 50, 56));
-    put_number(numbers, check, number_at(t, 59, 64))
+    let date = put_number(numbers, at, cro_of(m));
+    let time = put_number(numbers, date, date_of(m));
+    let check = put_number(numbers, time, time_of(m));
+    put_number(numbers, check, check_of(m))
 }
 
 // Writes the numbers of a place and whether it is well formed.
@@ -115,8 +94,7 @@ fn put_places(numbers: &mut [u64], at: usize, m: &[u8]) -> usize
     let mut end = at;
     let mut k = 0;
     while k < 10 {
-        let start = m.len() - 258 + 24 * k;
-        end = put_place(numbers, end, read_place(&m[start..start + 24]));
+        end = put_place(numbers, end, place_of(m, k));
         k += 1;
     }
     end
@@ -127,8 +105,10 @@ fn put_starts(numbers: &mut [u64], at: usize, m: &[u8]) -> usize
     requires { ⌜ (readable layout6G1 (now m) ≡ true) × (at + 3 ≤ length (now numbers)) ⌝ }
     ensures { λ r. ⌜ Wrote (now (numbers .entry)) at (textStarts (now (m .entry))) (now (numbers .exit)) r × (r ≡ at + 3) ⌝ }
 {
-    let n = m.len();
-    put_three(numbers, at, 3, (n - 272) as u64, (n - 15) as u64)
+    let kind = start_of(m, Field::MessageType);
+    let identifier = start_of(m, Field::Identifier);
+    let name = start_of(m, Field::Name);
+    put_three(numbers, at, kind as u64, identifier as u64, name as u64)
 }
 
 // Writes what a long form has besides its code.
@@ -143,18 +123,19 @@ fn put_address(numbers: &mut [u64], at: usize, a: Address, text: u64) -> usize
     }
 }
 
-// Writes that of sender and recipient. In 339 bytes both are short.
+// Writes that of sender and recipient.
 fn put_addresses(numbers: &mut [u64], at: usize, m: &[u8]) -> usize
     requires { ⌜ (readable layout6G1 (now m) ≡ true) × (at + 6 ≤ length (now numbers)) ⌝ }
     ensures { λ r. ⌜ Wrote (now (numbers .entry)) at (addressesNumbers (now (m .entry))) (now (numbers .exit)) r ⌝ }
 {
-    if m.len() == 339 {
+    if both_short(m) {
         let recipient = put_three(numbers, at, 0, 0, 0);
         return put_three(numbers, recipient, 0, 0, 0);
     }
-    let recipient = put_address(numbers, at, sender_of(m), 21);
-    let w = length_at(m, 6);
-    put_address(numbers, recipient, recipient_of(m), (w + 24) as u64)
+    let from = start_of(m, Field::Sender) + text_start();
+    let to = start_of(m, Field::Recipient) + text_start();
+    let recipient = put_address(numbers, at, sender_of(m), from as u64);
+    put_address(numbers, recipient, recipient_of(m), to as u64)
 }
 
 // Writes all numbers of a message.

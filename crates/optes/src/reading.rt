@@ -3,19 +3,16 @@
 use digits::Digits;
 use digits::has_number;
 use digits::number_of;
-use envelope::application::Field;
 use envelope::application::is_6g1;
-use envelope::internal::bytes_in;
 use envelope::internal::number_in;
-use envelope::internal::recipient_of;
-use envelope::internal::sender_of;
+use envelope::internal::place_of;
+use envelope::internal::recipient_digits;
+use envelope::internal::sender_digits;
 use layout::internal::contents;
 use layout::internal::offset_of;
-use numbers::internal::code_digits;
 use places::Amount;
 use places::Place;
 use places::Rate;
-use places::internal::read_place;
 ghost use mathlib.Core.Path.{_≡_};
 ghost use Rattle.envelope.specs.Application.{readingRefused};
 ghost use Rattle.numbers.specs.ByNumber.{flag, hasField, startOf, fieldDigits, placeAt};
@@ -84,10 +81,10 @@ fn digits_at(m: &[u8], field: u32) -> Digits
 {
     if is_6g1(m) {
         if field == 1 {
-            return code_digits(sender_of(m));
+            return sender_digits(m);
         }
         if field == 2 {
-            return code_digits(recipient_of(m));
+            return recipient_digits(m);
         }
         if (3 <= field) & (field <= 6) {
             return number_in(m, field as usize);
@@ -119,9 +116,7 @@ fn place_at(m: &[u8], place: u32) -> Place
 {
     if is_6g1(m) {
         if place < 10 {
-            let bids = bytes_in(m, Field::Bids);
-            let at = 24 * (place as usize);
-            return read_place(&bids[at..at + 24]);
+            return place_of(m, place as usize);
         }
         return no_place();
     }

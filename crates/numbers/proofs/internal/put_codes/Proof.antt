@@ -3,7 +3,6 @@ use borrow.Author.Needs.{needs}
 use mathlib.Core.Path.{refl, sym, ap, _∙_}
 use denote.Ref.{now}
 use Rattle.output.proofs.Output.{said}
-use Rattle.numbers.specs.ByNumber.{codeDigits}
 use Rattle.numbers.specs.Numbers.{digitNumbers}
 use Rattle.numbers.specs.Codes.{codesNumbers}
 use Rattle.numbers.proofs.ByNumber.{sender-code, recipient-code}
@@ -11,44 +10,29 @@ use Rattle.numbers.proofs.Arrays.{and-then}
 use Rattle.numbers.proofs.internal.put_codes.Statement.{statement}
 use Rattle.numbers.proofs.internal.put_codes.Tie as tie
 
-put-short-codes-requires : tie.Need-put-short-codes-requires
-put-short-codes-requires c κs = search needs
+sender-digits-requires : tie.Need-sender-digits-requires
+sender-digits-requires c κs = search needs
+
+put-number-requires : tie.Need-put-number-requires
+put-number-requires c κs = search needs
+
+recipient-digits-requires : tie.Need-recipient-digits-requires
+recipient-digits-requires c κs = search needs
+
+put-number-requires-2 : tie.Need-put-number-requires-2
+put-number-requires-2 c κs = search needs
 
 same-length : tie.Need-same-length
 same-length c = search needs
 
 returns : tie.Need-returns
-returns c = search needs
-
-sender-of-requires : tie.Need-sender-of-requires
-sender-of-requires c κs = search needs
-
-code-digits-requires : tie.Need-code-digits-requires
-code-digits-requires c κs = search needs
-
-put-number-requires : tie.Need-put-number-requires
-put-number-requires c κs = search needs
-
-recipient-of-requires : tie.Need-recipient-of-requires
-recipient-of-requires c κs = search needs
-
-code-digits-requires-2 : tie.Need-code-digits-requires-2
-code-digits-requires-2 c κs = search needs
-
-put-number-requires-2 : tie.Need-put-number-requires-2
-put-number-requires-2 c κs = search needs
-
-same-length-2 : tie.Need-same-length-2
-same-length-2 c = search needs
-
-returns-2 : tie.Need-returns-2
 unfolding codesNumbers digitNumbers
-returns-2 c =
-    let start = c .before .before .before .before .before .before .before .before .before .before .before .before .before .before .before in
+returns c =
+    let start = c .before .before .before .before .before .before .before .before .before .before .before .before in
     let m = now (start .args .m) in
     let h = start .pre .0 in
-    let sender = said (ap digitNumbers (c .before .before .before .before .before .before .before .before .before .code-digits .ensures ∙ ap codeDigits (c .before .before .before .before .before .before .before .before .before .before .sender-of .ensures) ∙ sym (sender-code m h 1 refl))) (c .before .before .before .before .before .before .before .before .put-number .ensures .0) in
-    let recipient = said (ap digitNumbers (c .before .before .before .code-digits2 .ensures ∙ ap codeDigits (c .before .before .before .before .recipient-of .ensures) ∙ sym (recipient-code m h 2 refl))) (c .before .before .put-number2 .ensures .0) in
+    let sender = said (ap digitNumbers (c .before .before .before .before .before .before .before .before .sender-digits .ensures ∙ sym (sender-code m h 1 refl))) (c .before .before .before .before .before .before .before .put-number .ensures .0) in
+    let recipient = said (ap digitNumbers (c .before .before .before .recipient-digits .ensures ∙ sym (recipient-code m h 2 refl))) (c .before .before .put-number2 .ensures .0) in
     let w = and-then sender recipient in
     (w, w .past)
 
@@ -56,14 +40,9 @@ pub put-codes-spec : {M : Type 1} → statement M
 put-codes-spec =
     tie.close
     (tie.spec
-    put-short-codes-requires
-    same-length
-    returns
-    sender-of-requires
-    code-digits-requires
+    sender-digits-requires
     put-number-requires
-    recipient-of-requires
-    code-digits-requires-2
+    recipient-digits-requires
     put-number-requires-2
-    same-length-2
-    returns-2)
+    same-length
+    returns)

@@ -1,15 +1,13 @@
 -- `numbers::internal::put_places` meets its contract. The loop's invariant: the first k places are written. Assumes nothing.
-use borrow.Author.Needs.{needs}
 use mathlib.Core.Path.{_≡_, ap, _∙_}
-use Prim.Native.Nat.{ℕ, _+_, _*_, _-_, _≤_}
+use Prim.Native.Nat.{_+_, _*_, _-_, _≤_}
 use native.Mathlib.Omega.{arith}
 use denote.Ref.{now}
-use lib.ListN.{length, take, drop}
+use lib.ListN.{length}
 use Rattle.output.specs.Output.{Wrote}
 use Rattle.output.proofs.Output.{then, said, nothing}
-use Rattle.places.specs.Bids.{placeOf}
 use Rattle.numbers.specs.Numbers.{placeNumbers, placesNumbers}
-use Rattle.numbers.proofs.Parts.{all-bytes, place-part, places-more}
+use Rattle.numbers.proofs.Parts.{place-part, places-more}
 use Rattle.numbers.proofs.internal.put_places.Statement.{statement}
 use Rattle.numbers.proofs.internal.put_places.Tie as tie
 
@@ -24,29 +22,8 @@ loop-holds : tie.Need-loop-holds Inv-loop μ-loop
 unfolding placesNumbers
 loop-holds c = (omega arith, omega arith, omega arith, nothing (now (c .before .before .args .numbers)) (c .before .before .args .at))
 
-sub-start : tie.Need-sub-start Inv-loop μ-loop
-sub-start c = omega (arith, all-bytes (now (c .before .before .before .before .args .m)) (c .before .before .before .before .pre .0))
-
-mul-start : tie.Need-mul-start Inv-loop μ-loop
-mul-start c = omega arith
-
-add-start : tie.Need-add-start Inv-loop μ-loop
-add-start c = omega (arith, all-bytes (now (c .before .before .before .before .args .m)) (c .before .before .before .before .pre .0))
-
-add-read-place : tie.Need-add-read-place Inv-loop μ-loop
-add-read-place c = omega (arith, all-bytes (now (c .before .before .before .before .before .args .m)) (c .before .before .before .before .before .pre .0))
-
-sub-read-place : tie.Need-sub-read-place Inv-loop μ-loop
-sub-read-place c = omega arith
-
-part-read-place-start : tie.Need-part-read-place-start Inv-loop μ-loop
-part-read-place-start c = omega arith
-
-part-read-place-end : tie.Need-part-read-place-end Inv-loop μ-loop
-part-read-place-end c = omega (arith, all-bytes (now (c .before .before .before .before .before .args .m)) (c .before .before .before .before .before .pre .0))
-
-read-place-requires : tie.Need-read-place-requires Inv-loop μ-loop
-read-place-requires c κs = search needs
+place-of-requires : tie.Need-place-of-requires Inv-loop μ-loop
+place-of-requires c κs = (c .before .before .before .before .before .pre .0, omega arith)
 
 put-place-requires : tie.Need-put-place-requires Inv-loop μ-loop
 put-place-requires c κs = omega arith
@@ -59,14 +36,11 @@ loop-less c = omega arith
 
 loop-again : tie.Need-loop-again Inv-loop μ-loop
 loop-again c =
-    let start = c .before .before .before .before .before .before .before .before .before .before in
-    let m = now (start .args .m) in
-    let l = c .before .before .before .before .before .before .before .loop in
+    let start = c .before .before .before .before .before .before .before .before .before in
+    let l = c .before .before .before .before .before .before .loop in
     let k = l .k in
-    let at = length m - 258 + 24 * k in
-    let n : at + 24 - at ≡ 24 = omega arith in
-    let p = c .before .before .before .read-place .ensures ∙ ap (λ (j : ℕ). placeOf (take j (drop at m))) n ∙ place-part m (start .pre .0) k (omega arith) in
-    (omega arith, omega arith, omega arith, said (places-more k m) (then (omega arith) (l .inv .3) (said (ap placeNumbers p) (c .before .before .put-place .ensures .0))))
+    let p = c .before .before .before .place-of .ensures ∙ place-part (now (start .args .m)) (start .pre .0) k (omega arith) in
+    (omega arith, omega arith, omega arith, said (places-more k (now (start .args .m))) (then (omega arith) (l .inv .3) (said (ap placeNumbers p) (c .before .before .put-place .ensures .0))))
 
 same-length : tie.Need-same-length Inv-loop μ-loop
 same-length c = omega arith
@@ -84,14 +58,7 @@ put-places-spec =
     Inv-loop
     μ-loop
     loop-holds
-    sub-start
-    mul-start
-    add-start
-    add-read-place
-    sub-read-place
-    part-read-place-start
-    part-read-place-end
-    read-place-requires
+    place-of-requires
     put-place-requires
     add-k
     loop-less

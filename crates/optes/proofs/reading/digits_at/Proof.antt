@@ -1,7 +1,7 @@
 -- `optes::reading::digits_at` meets its contract. Assumes nothing.
 use borrow.Author.Needs.{needs}
 use borrow.Author.Tests.{leb-true}
-use mathlib.Core.Path.{_≡_, sym, ap, _∙_}
+use mathlib.Core.Path.{_≡_, sym, _∙_}
 use mathlib.Core.Bool.{true}
 use Prim.Native.Nat.{_≤_}
 use denote.Ref.{now}
@@ -9,7 +9,6 @@ use lib.Dec.{leb}
 use Rattle.laws.proofs.Tests.{and-left, and-right}
 use Rattle.layout.specs.Fields.{readable}
 use Rattle.envelope.specs.Application.{layout6G1}
-use Rattle.numbers.specs.ByNumber.{codeDigits}
 use Rattle.numbers.proofs.ByNumber.{sender-code, recipient-code, digits-there, digits-other, digits-none, digit-field}
 use Rattle.optes.proofs.reading.digits_at.Statement.{statement}
 use Rattle.optes.proofs.reading.digits_at.Tie as tie
@@ -26,23 +25,17 @@ most c = leb-true (c .before .before .before .before .before .before .args .fiel
 is-6g1-requires : tie.Need-is-6g1-requires
 is-6g1-requires c κs = search needs
 
-sender-of-requires : tie.Need-sender-of-requires
-sender-of-requires c κs = readable-there (c .before)
-
-code-digits-requires : tie.Need-code-digits-requires
-code-digits-requires c κs = search needs
+sender-digits-requires : tie.Need-sender-digits-requires
+sender-digits-requires c κs = readable-there (c .before)
 
 returns : tie.Need-returns
-returns c = c .code-digits .ensures ∙ ap codeDigits (c .before .sender-of .ensures) ∙ sym (sender-code (now (c .before .before .before .before .before .before .args .m)) (readable-there (c .before .before .before)) (c .before .before .before .before .before .before .args .field) (c .before .before .if2 .taken))
+returns c = c .sender-digits .ensures ∙ sym (sender-code (now (c .before .before .before .before .before .args .m)) (readable-there (c .before .before)) (c .before .before .before .before .before .args .field) (c .before .if2 .taken))
 
-recipient-of-requires : tie.Need-recipient-of-requires
-recipient-of-requires c κs = readable-there (c .before .before)
-
-code-digits-requires-2 : tie.Need-code-digits-requires-2
-code-digits-requires-2 c κs = search needs
+recipient-digits-requires : tie.Need-recipient-digits-requires
+recipient-digits-requires c κs = readable-there (c .before .before)
 
 returns-2 : tie.Need-returns-2
-returns-2 c = c .code-digits2 .ensures ∙ ap codeDigits (c .before .recipient-of .ensures) ∙ sym (recipient-code (now (c .before .before .before .before .before .before .before .args .m)) (readable-there (c .before .before .before .before)) (c .before .before .before .before .before .before .before .args .field) (c .before .before .if3 .taken))
+returns-2 c = c .recipient-digits .ensures ∙ sym (recipient-code (now (c .before .before .before .before .before .before .args .m)) (readable-there (c .before .before .before)) (c .before .before .before .before .before .before .args .field) (c .before .if3 .taken))
 
 number-in-requires : tie.Need-number-in-requires
 number-in-requires c κs = digit-field (c .before .before .before .before .before .before .args .field) (now (c .before .before .before .before .before .before .args .m)) (readable-there (c .before .before .before)) (least c) (most c)
@@ -61,11 +54,9 @@ digits-at-spec =
     tie.close
     (tie.spec
     is-6g1-requires
-    sender-of-requires
-    code-digits-requires
+    sender-digits-requires
     returns
-    recipient-of-requires
-    code-digits-requires-2
+    recipient-digits-requires
     returns-2
     number-in-requires
     returns-3

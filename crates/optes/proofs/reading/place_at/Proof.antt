@@ -2,19 +2,17 @@
 use borrow.Author.Needs.{needs}
 use mathlib.Core.Path.{_≡_, sym, ap, _∙_}
 use mathlib.Core.Bool.{true}
-use mathlib.Core.List.{List}
-use Prim.Native.Nat.{ℕ, _+_, _*_, _-_}
 use native.Mathlib.Omega.{arith}
 use denote.Ref.{now}
-use lib.ListN.{take, drop}
 use Rattle.layout.specs.Fields.{readable}
-use Rattle.places.specs.Bids.{placeOf, placesIn, placesOf}
+use Rattle.places.specs.Bids.{placesIn, placesOf}
 use Rattle.places.proofs.Reading.{length-places}
 use Rattle.envelope.specs.declared.application.Field.the-variants.{Bids}
 use Rattle.envelope.specs.declared.application.Fields.{Fields}
 use Rattle.envelope.specs.Application.{layout6G1, bytesOf, fieldsOf}
 use Rattle.numbers.specs.ByNumber.{placeNumbered, placeAt}
-use Rattle.numbers.proofs.ByNumber.{fields-read, fields-none, place-there, place-past, place-none}
+use Rattle.numbers.proofs.ByNumber.{fields-read, fields-none, place-past, place-none}
+use Rattle.numbers.proofs.Parts.{place-part}
 use Rattle.optes.proofs.reading.place_at.Statement.{statement}
 use Rattle.optes.proofs.reading.place_at.Tie as tie
 
@@ -24,37 +22,13 @@ readable-there c = sym (c .before .is-6g1 .ensures) ∙ c .if1 .taken
 is-6g1-requires : tie.Need-is-6g1-requires
 is-6g1-requires c κs = search needs
 
-bytes-in-requires : tie.Need-bytes-in-requires
-bytes-in-requires c κs = readable-there (c .before)
-
-mul-at : tie.Need-mul-at
-mul-at c = search needs
-
-add-read-place : tie.Need-add-read-place
-add-read-place c = search needs
-
-sub-read-place : tie.Need-sub-read-place
-sub-read-place c = search needs
-
-part-read-place-start : tie.Need-part-read-place-start
-part-read-place-start c = search needs
-
-part-read-place-end : tie.Need-part-read-place-end
-part-read-place-end c =
-    let l = c .bytes-in .ensures .1 in
-    omega (arith, l)
-
-read-place-requires : tie.Need-read-place-requires
-read-place-requires c κs = search needs
+place-of-requires : tie.Need-place-of-requires
+place-of-requires c κs = (readable-there (c .before), c .if2 .taken)
 
 returns : tie.Need-returns
-unfolding placeAt fieldsOf
 returns c =
-    let m = now (c .before .before .before .before .before .before .before .args .m) in
-    let k = c .before .before .before .before .before .before .before .args .place in
-    let n : 24 * k + 24 - 24 * k ≡ 24 = omega arith in
-    let e = c .read-place .ensures ∙ ap (λ (j : ℕ). placeOf (take j (drop (24 * k) (now (c .before .before .bytes-in .result))))) n ∙ ap (λ (s : List ℕ). placeOf (take 24 (drop (24 * k) s))) (c .before .before .bytes-in .ensures .0) in
-    e ∙ sym (ap (λ (f : Fields). placeNumbered k (f .places)) (fields-read m (readable-there (c .before .before .before .before))) ∙ place-there k (bytesOf Bids m) (c .before .before .before .if2 .taken))
+    let a = c .before .before .before .before .before .args in
+    c .place-of .ensures ∙ place-part (now (a .m)) (readable-there (c .before .before)) (a .place) (c .before .if2 .taken)
 
 no-place-requires : tie.Need-no-place-requires
 no-place-requires c κs = search needs
@@ -82,13 +56,7 @@ place-at-spec =
     tie.close
     (tie.spec
     is-6g1-requires
-    bytes-in-requires
-    mul-at
-    add-read-place
-    sub-read-place
-    part-read-place-start
-    part-read-place-end
-    read-place-requires
+    place-of-requires
     returns
     no-place-requires
     returns-2

@@ -1,9 +1,9 @@
--- `numbers::internal::code_digits` meets its contract. Assumes nothing.
+-- `addresses::code_digits` meets its contract. Assumes nothing.
 use borrow.Author.Needs.{needs}
 use mathlib.Core.Path.{sym, ap}
-use Rattle.numbers.specs.ByNumber.{codeDigits}
-use Rattle.numbers.proofs.internal.code_digits.Statement.{statement}
-use Rattle.numbers.proofs.internal.code_digits.Tie as tie
+use Rattle.addresses.specs.Addresses.{codeDigits}
+use Rattle.addresses.proofs.code_digits.Statement.{statement}
+use Rattle.addresses.proofs.code_digits.Tie as tie
 
 enum-told : tie.Need-enum-told
 enum-told c = search needs
