@@ -4,7 +4,6 @@ use addresses::Address;
 use addresses::code_digits;
 use addresses::internal::address_at;
 use digits::Digits;
-use digits::internal::number;
 use layout::internal::contents;
 use layout::internal::length_at;
 use places::Place;
@@ -23,15 +22,6 @@ ghost use Rattle.addresses.specs.Addresses.{addressOf, codeDigits};
 ghost use Rattle.places.specs.Bids.{placeOf};
 ghost use Rattle.envelope.specs.declared.application.Field.the-variants.{Sender, Recipient, Cro, Date, Time, Check, Bids};
 ghost use Rattle.envelope.specs.Application.{entryOf, layout6G1, position, bytesOf};
-
-// The number in field k, counted from 0.
-pub fn number_in(m: &[u8], k: usize) -> Digits
-    requires { ⌜ whole k (now m) ≡ true ⌝ }
-    requires { ⌜ length (content k (now m)) ≤ 19 ⌝ }
-    ensures { λ r. ⌜ r ≡ digitsOf (content k (now (m .entry))) ⌝ }
-{
-    number(contents(m, k))
-}
 
 // The contents of field k where it is there, else none.
 pub fn contents_if(there: bool, m: &[u8], k: usize) -> &[u8]

@@ -1,11 +1,11 @@
 -- Laws of the fields and places of a 6G1 by their numbers. Assumes nothing.
 use mathlib.Core.Path.{_≡_, refl, sym, ap, _∙_}
 use mathlib.Core.Logic.{_≢_}
-use mathlib.Core.Bool.{true, false, _&&_, false≢true}
+use mathlib.Core.Bool.{true, false}
 use mathlib.Core.List.{List, map}
 use Prim.Native.Nat.{ℕ, zero, suc, _*_, _≤_, _<_}
 use native.Mathlib.Omega.{arith}
-use lib.Dec.{leb, ltb}
+use lib.Dec.{ltb}
 use lib.ListN.{length, take, drop, getD, replicate, List·getD-map, List·getD-eq-default}
 use borrow.Author.Tests.{ltb-true}
 use Rattle.laws.proofs.Tests.{and-left, and-right}
@@ -17,11 +17,10 @@ use Rattle.addresses.specs.Addresses.{addressOf, codeDigits}
 use Rattle.places.specs.declared.Place.{Place}
 use Rattle.places.specs.Bids.{malformed, placeOf, placesIn, columns, placesOf}
 use Rattle.places.proofs.Reading.{place-at}
-use Rattle.envelope.specs.declared.application.Field.the-variants.{Sender, Recipient, Cro, Date, Time, Check}
+use Rattle.envelope.specs.declared.application.Field.the-variants.{Sender, Recipient}
 use Rattle.envelope.specs.declared.application.Fields.{Fields}
 use Rattle.envelope.specs.Refusals.{firstHolding}
 use Rattle.envelope.specs.Application.{layout6G1, bytesOf, fieldsOf, noFields, reading}
-use Rattle.envelope.proofs.Promise.{whole-field, length-field}
 use Rattle.numbers.specs.ByNumber.{hasField, numbered, fieldDigits, placeNumbered}
 
 -- a field that is there is whole
@@ -50,16 +49,16 @@ digit-number (suc (suc (suc (suc (suc zero))))) m h l = refl
 digit-number (suc (suc (suc (suc (suc (suc zero)))))) m h l = refl
 digit-number (suc (suc (suc (suc (suc (suc (suc k))))))) m h l = absurd (let z : ⊥ = omega arith in z)
 
-no-digit-number : (k : ℕ) (f : Fields) → k ≢ 1 → k ≢ 2 → leb 3 k && leb k 6 ≡ false → numbered k f ≡ None
+no-digit-number : (k : ℕ) (fields : Fields) → k ≢ 1 → k ≢ 2 → k ≢ 3 → k ≢ 4 → k ≢ 5 → k ≢ 6 → numbered k fields ≡ None
 unfolding numbered
-no-digit-number zero f a b h = refl
-no-digit-number (suc zero) f a b h = absurd (a refl)
-no-digit-number (suc (suc zero)) f a b h = absurd (b refl)
-no-digit-number (suc (suc (suc zero))) f a b h = absurd (false≢true (sym h))
-no-digit-number (suc (suc (suc (suc zero)))) f a b h = absurd (false≢true (sym h))
-no-digit-number (suc (suc (suc (suc (suc zero))))) f a b h = absurd (false≢true (sym h))
-no-digit-number (suc (suc (suc (suc (suc (suc zero)))))) f a b h = absurd (false≢true (sym h))
-no-digit-number (suc (suc (suc (suc (suc (suc (suc k))))))) f a b h = refl
+no-digit-number zero fields a b c d e f = refl
+no-digit-number (suc zero) fields a b c d e f = absurd (a refl)
+no-digit-number (suc (suc zero)) fields a b c d e f = absurd (b refl)
+no-digit-number (suc (suc (suc zero))) fields a b c d e f = absurd (c refl)
+no-digit-number (suc (suc (suc (suc zero)))) fields a b c d e f = absurd (d refl)
+no-digit-number (suc (suc (suc (suc (suc zero))))) fields a b c d e f = absurd (e refl)
+no-digit-number (suc (suc (suc (suc (suc (suc zero)))))) fields a b c d e f = absurd (f refl)
+no-digit-number (suc (suc (suc (suc (suc (suc (suc k))))))) fields a b c d e f = refl
 
 nothing-numbered : (k : ℕ) → numbered k noFields ≡ None
 unfolding numbered
@@ -97,24 +96,13 @@ module _ (k : ℕ) (m : List ℕ) where
   unfolding fieldDigits
   digits-there h l u = ap (numbered k) (fields-read m h) ∙ digit-number k m l u
 
-  pub digits-other : readable layout6G1 m ≡ true → k ≢ 1 → k ≢ 2 → leb 3 k && leb k 6 ≡ false → None ≡ fieldDigits k m
+  pub digits-other : k ≢ 1 → k ≢ 2 → k ≢ 3 → k ≢ 4 → k ≢ 5 → k ≢ 6 → None ≡ fieldDigits k m
   unfolding fieldDigits
-  digits-other h a b t = sym (no-digit-number k (reading m .1) a b t)
+  digits-other a b c d e f = sym (no-digit-number k (reading m .1) a b c d e f)
 
   pub digits-none : readable layout6G1 m ≡ false → None ≡ fieldDigits k m
   unfolding fieldDigits
   digits-none h = sym (ap (numbered k) (fields-none m h) ∙ nothing-numbered k)
-
--- each of them is whole, and its number fits
-pub digit-field : (k : ℕ) (m : List ℕ) → readable layout6G1 m ≡ true → 3 ≤ k → k ≤ 6 → (whole k m ≡ true) × (length (content k m) ≤ 19)
-digit-field zero m h l u = absurd (let z : ⊥ = omega arith in z)
-digit-field (suc zero) m h l u = absurd (let z : ⊥ = omega arith in z)
-digit-field (suc (suc zero)) m h l u = absurd (let z : ⊥ = omega arith in z)
-digit-field (suc (suc (suc zero))) m h l u = (whole-field m h Cro, omega (arith, length-field m h Cro))
-digit-field (suc (suc (suc (suc zero)))) m h l u = (whole-field m h Date, omega (arith, length-field m h Date))
-digit-field (suc (suc (suc (suc (suc zero))))) m h l u = (whole-field m h Time, omega (arith, length-field m h Time))
-digit-field (suc (suc (suc (suc (suc (suc zero)))))) m h l u = (whole-field m h Check, omega (arith, length-field m h Check))
-digit-field (suc (suc (suc (suc (suc (suc (suc k))))))) m h l u = absurd (let z : ⊥ = omega arith in z)
 
 -- the places by their numbers
 column : {A : Type 0} (f : Place → A) (s : List ℕ) (k : ℕ) → k < 10 → getD (map f (placesIn 10 s)) k (f malformed) ≡ f (placeOf (take 24 (drop (24 * k) s)))

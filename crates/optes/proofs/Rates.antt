@@ -1,4 +1,4 @@
--- Rates within 32 bits are held whole, and a wider one is refused. Assumes nothing.
+-- Rates of up to eight digits are held whole in 32 bits, and a wider one is refused. Assumes nothing.
 use mathlib.Core.Path.{_≡_, refl, sym, ap, ap₂, _∙_}
 use mathlib.Core.Bool.{Bool, true, false, _&&_, false≢true}
 use mathlib.Core.List.{List, [], _∷_, map}
@@ -22,32 +22,31 @@ use Rattle.optes.specs.Interface.{answerNumber, answered, rateOf}
 abbrev pub lowRate : ℕ → Rate
 lowRate n = rateOf (n % 4294967296)
 
--- whether rates are within 32 bits, tested one after the other
+-- whether rates have up to eight digits, tested one after the other
 unfoldable pub within : Bool → List ℕ → Bool
 within b [] = b
-within b (r ∷ rs) = within (b && ltb r 4294967296) rs
+within b (r ∷ rs) = within (b && ltb r 100000000) rs
 
 within-first : (b : Bool) (rs : List ℕ) → within b rs ≡ true → b ≡ true
 unfolding within
 within-first b [] h = h
-within-first b (r ∷ rs) h = and-left b (ltb r 4294967296) (within-first (b && ltb r 4294967296) rs h)
+within-first b (r ∷ rs) h = and-left b (ltb r 100000000) (within-first (b && ltb r 100000000) rs h)
 
 same-rates : (b : Bool) (rs : List ℕ) → within b rs ≡ true → map lowRate rs ≡ map rateOf rs
 unfolding within
 same-rates b [] h = refl
 same-rates b (r ∷ rs) h =
-    let l = ltb-true r 4294967296 (and-right b (ltb r 4294967296) (within-first (b && ltb r 4294967296) rs h)) in
-    ap₂ (λ (x : ℕ) (xs : List Rate). rateOf x ∷ xs) (let e : r % 4294967296 ≡ r = omega arith in e) (same-rates (b && ltb r 4294967296) rs h)
+    let l = ltb-true r 100000000 (and-right b (ltb r 100000000) (within-first (b && ltb r 100000000) rs h)) in
+    ap₂ (λ (x : ℕ) (xs : List Rate). rateOf x ∷ xs) (let e : r % 4294967296 ≡ r = omega arith in e) (same-rates (b && ltb r 100000000) rs h)
 
--- rates that fit their field are within 32 bits
+-- rates that fit their field have
 fit-within : (b : Bool) (rs : List ℕ) (qs : List Amount) → length rs ≤ length qs → b ≡ true → placesFit (map rateOf rs) qs ≡ true → within b rs ≡ true
 unfolding within placesFit
 fit-within b [] qs l t h = t
 fit-within b (r ∷ rs) [] l t h = absurd (let z : ⊥ = omega arith in z)
 fit-within b (r ∷ rs) (q ∷ qs) l t h =
     let f = and-left (fits 8 r && fits 15 (q .0)) (placesFit (map rateOf rs) qs) h in
-    let n = ltb-true r (10 ^ 8) (and-left (fits 8 r) (fits 15 (q .0)) f) in
-    fit-within (b && ltb r 4294967296) rs qs (omega arith) (ap₂ (λ (x y : Bool). x && y) t (lt-ltb r 4294967296 (omega arith))) (and-right (fits 8 r && fits 15 (q .0)) (placesFit (map rateOf rs) qs) h)
+    fit-within (b && ltb r 100000000) rs qs (omega arith) (ap₂ (λ (x y : Bool). x && y) t (and-left (fits 8 r) (fits 15 (q .0)) f)) (and-right (fits 8 r && fits 15 (q .0)) (placesFit (map rateOf rs) qs) h)
 
 -- an application with other rates
 abbrev pub withRates : Application → List Rate → Application

@@ -4,10 +4,13 @@ use digits::Digits;
 use digits::has_number;
 use digits::number_of;
 use envelope::application::is_6g1;
-use envelope::internal::number_in;
+use envelope::internal::check_of;
+use envelope::internal::cro_of;
+use envelope::internal::date_of;
 use envelope::internal::place_of;
 use envelope::internal::recipient_digits;
 use envelope::internal::sender_digits;
+use envelope::internal::time_of;
 use layout::internal::contents;
 use layout::internal::offset_of;
 use places::Amount;
@@ -80,16 +83,15 @@ fn digits_at(m: &[u8], field: u32) -> Digits
     ensures { λ r. ⌜ r ≡ fieldDigits field (now (m .entry)) ⌝ }
 {
     if is_6g1(m) {
-        if field == 1 {
-            return sender_digits(m);
-        }
-        if field == 2 {
-            return recipient_digits(m);
-        }
-        if (3 <= field) & (field <= 6) {
-            return number_in(m, field as usize);
-        }
-        return Digits::None;
+        return match field {
+            1 => sender_digits(m),
+            2 => recipient_digits(m),
+            3 => cro_of(m),
+            4 => date_of(m),
+            5 => time_of(m),
+            6 => check_of(m),
+            _ => Digits::None,
+        };
     }
     Digits::None
 }

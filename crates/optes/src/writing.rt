@@ -44,8 +44,8 @@ fn number(a: WriteAnswer) -> u32
     }
 }
 
-// Writes a 6G1 at the start of the space: 0, or 17 or 18 with the space as it was. A rate of over 32
-// bits is too wide for its field; all are tested at once, so that the compiler makes it one test.
+// Writes a 6G1 at the start of the space: 0, or 17 or 18 with the space as it was. A rate of over eight
+// digits is too wide for its field, and is refused before 32 bits are taken of it.
 fn written(
     from: Address,
     to: Address,
@@ -83,16 +83,16 @@ fn written(
         (amount0 ∷ amount1 ∷ amount2 ∷ amount3 ∷ amount4 ∷ amount5 ∷ amount6 ∷ amount7 ∷ amount8 ∷ amount9 ∷ []))
         (now (kind .entry)) (now (identifier .entry)) (now (name .entry)) (now (space .entry))) ⌝ }
 {
-    if !((rate0 < 4294967296)
-        & (rate1 < 4294967296)
-        & (rate2 < 4294967296)
-        & (rate3 < 4294967296)
-        & (rate4 < 4294967296)
-        & (rate5 < 4294967296)
-        & (rate6 < 4294967296)
-        & (rate7 < 4294967296)
-        & (rate8 < 4294967296)
-        & (rate9 < 4294967296)) {
+    if !((rate0 < 100000000)
+        & (rate1 < 100000000)
+        & (rate2 < 100000000)
+        & (rate3 < 100000000)
+        & (rate4 < 100000000)
+        & (rate5 < 100000000)
+        & (rate6 < 100000000)
+        & (rate7 < 100000000)
+        & (rate8 < 100000000)
+        & (rate9 < 100000000)) {
         return 17;
     }
     let rates = [

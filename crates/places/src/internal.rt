@@ -93,12 +93,16 @@ pub fn read_places(s: &[u8]) -> Places
 }
 
 // Writes one place from an index on and answers the index past it: eight digits, slash and seven
-// digits, eight digits.
+// digits, eight digits. Many places are empty, and of those the amount need not be parted.
 pub fn put_place(space: &mut [u8], at: usize, rate: Rate, amount: Amount) -> usize
     requires { ⌜ (at + 24 ≤ length (now space)) × (rate .0 < 100000000) × (amount .0 < 1000000000000000) ⌝ }
     ensures { λ r. ⌜ Wrote (now (space .entry)) at (placeText rate amount) (now (space .exit)) r × (r ≡ at + 24) ⌝ }
 {
     let slash = put_eight(space, at, rate.0 as u64);
+    if amount.0 == 0 {
+        let last = put_seven(space, slash, 0);
+        return put_eight(space, last, 0);
+    }
     let last = put_seven(space, slash, amount.0 / 100000000);
     put_eight(space, last, amount.0 % 100000000)
 }
