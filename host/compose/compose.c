@@ -3,6 +3,7 @@
 //
 // compose [SCRIPT] reads the script, or standard input, and writes the session to standard output. A
 // script that it cannot take gives an error with its name and the number of the line, status 2 and no session.
+// compose --help says how to call it.
 #include <errno.h>
 #include <stdio.h>
 #include <string.h>
@@ -28,17 +29,40 @@ static void add_step(const struct line *line, void *into)
     bytes_free(&step.held);
 }
 
+// A script of this name is given as ./--help.
+static bool asks_help(int argc, char **argv)
+{
+    return argc == 2 && (strcmp(argv[1], "--help") == 0 || strcmp(argv[1], "-h") == 0);
+}
+
+static void add_help(struct bytes *output)
+{
+    static const char help[] =
+        "compose [SCRIPT]   turn a script of steps, or standard input, into a session in binary form\n"
+        "\n"
+        "./session-log --help shows the steps.\n";
+    bytes_add(output, help, strlen(help));
+}
+
+static void add_session(struct bytes *output, const char *name)
+{
+    struct script script = script_read(name);
+    script_lines(&script, add_step, output);
+    bytes_free(&script.bytes);
+}
+
 int main(int argc, char **argv)
 {
-    struct bytes session = {0};
+    struct bytes output = {0};
     if (argc > 2)
         script_fail(argv[2], "compose takes one script");
-    struct script script = script_read(argc == 2 ? argv[1] : NULL);
-    script_lines(&script, add_step, &session);
-    size_t written = session.length == 0 ? 0 : fwrite(session.at, 1, session.length, stdout);
-    if (written != session.length || fflush(stdout) != 0)
+    if (asks_help(argc, argv))
+        add_help(&output);
+    else
+        add_session(&output, argc == 2 ? argv[1] : NULL);
+    size_t written = output.length == 0 ? 0 : fwrite(output.at, 1, output.length, stdout);
+    if (written != output.length || fflush(stdout) != 0)
         script_fail("standard output", strerror(errno));
-    bytes_free(&session);
-    bytes_free(&script.bytes);
+    bytes_free(&output);
     return 0;
 }

@@ -6,8 +6,8 @@
 #include "book.h"
 #include "reply.h"
 #include "texts.h"
+#include "values.h"
 
-#define CODE_DIGITS 5
 #define DATE_DIGITS 8
 #define TIME_DIGITS 6
 #define CLOCK_BYTES (DATE_DIGITS + TIME_DIGITS)

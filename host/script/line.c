@@ -10,7 +10,7 @@
 
 static bool is_blank(char c)
 {
-    return c == ' ' || c == '\t' || c == '\r';
+    return c == ' ' || c == '\t';
 }
 
 static bool is_control(char c)
@@ -20,10 +20,13 @@ static bool is_control(char c)
 
 static void expect_text(const struct line *line, const char *text, size_t length)
 {
-    for (size_t i = 0; i < length; i++)
+    for (size_t i = 0; i < length; i++) {
+        if (text[i] == '\r')
+            refuse(line, "column %zu has a carriage return: expected lines that end with LF or CR LF", i + 1);
         if (is_control(text[i]))
             refuse(line, "column %zu has the control byte %02X: expected text; other bytes are written as "
                 "hexadecimal digits", i + 1, (unsigned)text[i]);
+    }
 }
 
 static void add_word(struct line *line, struct word word)
@@ -66,9 +69,9 @@ static size_t add_plain(struct line *line, const char *text, size_t length, size
 
 void line_split(struct line *line, const char *text, size_t length)
 {
-    expect_text(line, text, length);
     if (length > 0 && text[length - 1] == '\r')
         length--;
+    expect_text(line, text, length);
     line->count = 0;
     size_t i = 0;
     while (i < length) {

@@ -21,7 +21,8 @@ struct line {
     size_t room;
 };
 
-// Cuts the text into the words of the line. A control byte other than a tab or a carriage return is refused.
+// Cuts the text into the words of the line. A carriage return at its end is passed over; any other control byte than
+// a tab is refused.
 void line_split(struct line *line, const char *text, size_t length);
 
 // Gives the memory of the words back.

@@ -56,6 +56,8 @@ static size_t text_start(const struct script *script)
 void script_lines(const struct script *script, take_line *take, void *into)
 {
     struct line line = {.script = script->name};
+    if (script->bytes.length == 0) // No memory was taken then that text could point to.
+        return;
     size_t start = text_start(script);
     const char *text = (const char *)script->bytes.at + start;
     size_t left = script->bytes.length - start;
