@@ -39,8 +39,7 @@ fn formed_place(rate: u64, high: u64, low: u64) -> Place
     }
 }
 
-// The place in 24 characters. Each byte is loaded once, to be tested and to give its digit. Many places
-// are empty, and the words of one are zeros, so that there is no digit to look at.
+// The place in 24 characters. Each byte is loaded once, to be tested and to give its digit.
 pub fn read_place(s: &[u8]) -> Place
     requires { ⌜ length (now s) ≡ 24 ⌝ }
     ensures { λ r. ⌜ r ≡ placeOf (now (s .entry)) ⌝ }
@@ -48,13 +47,6 @@ pub fn read_place(s: &[u8]) -> Place
     let rate = lowered(&s[0..8]);
     let high = after_slash(&s[8..16]);
     let low = lowered(&s[16..24]);
-    if (rate == 0) & (high == 0) & (low == 0) {
-        return Place {
-            formed: true,
-            rate: Rate(0),
-            amount: Amount(0),
-        };
-    }
     if is_formed(rate, high, low) {
         formed_place(rate, high, low)
     } else {
@@ -64,6 +56,29 @@ pub fn read_place(s: &[u8]) -> Place
             amount: Amount(0),
         }
     }
+}
+
+// Whether 24 characters are an empty place: the words of one are zeros.
+fn is_empty(s: &[u8]) -> bool
+    requires { ⌜ length (now s) ≡ 24 ⌝ }
+    ensures { λ r. ⌜ (r ≡ true → placeOf (now (s .entry)) ≡ formedPlace 0 0) ⌝ }
+{
+    (lowered(&s[0..8]) == 0) & (after_slash(&s[8..16]) == 0) & (lowered(&s[16..24]) == 0)
+}
+
+// The same place, sooner where it is empty, as many places of an application are.
+fn read_sooner(s: &[u8]) -> Place
+    requires { ⌜ length (now s) ≡ 24 ⌝ }
+    ensures { λ r. ⌜ r ≡ placeOf (now (s .entry)) ⌝ }
+{
+    if is_empty(s) {
+        return Place {
+            formed: true,
+            rate: Rate(0),
+            amount: Amount(0),
+        };
+    }
+    read_place(s)
 }
 
 // The ten places of 240 characters.
@@ -77,7 +92,7 @@ pub fn read_places(s: &[u8]) -> Places
     let mut k = 0;
     while k < 10 {
         let at = 24 * k;
-        let p = read_place(&s[at..at + 24]);
+        let p = read_sooner(&s[at..at + 24]);
         formed[k] = p.formed;
         let rate = p.rate;
         rates[k] = rate;

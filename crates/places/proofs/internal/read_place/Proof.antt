@@ -7,7 +7,7 @@ use denote.Ref.{now}
 use lib.Dec.{eqb}
 use Rattle.words.specs.Words.{lowBytes, allSmall}
 use Rattle.places.specs.Bids.{isPlace}
-use Rattle.places.proofs.Reading.{last-three, formed-is, words-place, zero-place, malformed-is}
+use Rattle.places.proofs.Reading.{last-three, formed-is, words-place, malformed-is}
 use Rattle.places.proofs.internal.read_place.Statement.{statement}
 use Rattle.places.proofs.internal.read_place.Tie as tie
 
@@ -47,41 +47,29 @@ part-lowered-end-2 c = search needs
 lowered-requires-2 : tie.Need-lowered-requires-2
 lowered-requires-2 c κs = search needs
 
-returns : tie.Need-returns
-returns c =
-    let start = c .before .before .before .before .before .before .before .before in
-    let r = c .before .before .before .before .before .lowered in
-    let h = c .before .before .before .after-slash in
-    let l = c .before .lowered2 in
-    zero-place (now (start .args .s)) (start .pre) (r .result) (h .result) (l .result) (r .ensures) (h .ensures) (l .ensures) (c .if1 .taken)
-
 is-formed-requires : tie.Need-is-formed-requires
 is-formed-requires c κs = search needs
 
 formed-place-requires : tie.Need-formed-place-requires
 formed-place-requires c κs =
-    let r = c .before .before .before .before .before .before .before .lowered .result in
-    let h = c .before .before .before .before .before .after-slash .result in
-    let l = c .before .before .before .lowered2 .result in
-    last-three (eqb (h % 256) 0) (allSmall (lowBytes 8 r)) (allSmall (lowBytes 8 h)) (allSmall (lowBytes 8 l)) (sym (c .before .is-formed .ensures) ∙ c .if2 .taken)
+    last-three (eqb (c .before .before .before .before .after-slash .result % 256) 0) (allSmall (lowBytes 8 (c .before .before .before .before .before .before .lowered .result))) (allSmall (lowBytes 8 (c .before .before .before .before .after-slash .result))) (allSmall (lowBytes 8 (c .before .before .lowered2 .result))) (sym (c .before .is-formed .ensures) ∙ c .if1 .taken)
 
-returns-2 : tie.Need-returns-2
-returns-2 c =
-    let start = c .before .before .before .before .before .before .before .before .before .before .before in
-    let s = now (start .args .s) in
-    let r = c .before .before .before .before .before .before .before .before .lowered in
-    let h = c .before .before .before .before .before .before .after-slash in
-    let l = c .before .before .before .before .lowered2 in
-    let i : isPlace s ≡ true = sym (formed-is s (r .result) (h .result) (l .result) (r .ensures) (h .ensures) (l .ensures)) ∙ sym (c .before .before .is-formed .ensures) ∙ c .before .if2 .taken in
-    c .formed-place .ensures ∙ words-place s (start .pre) i (r .result) (h .result) (l .result) (r .ensures) (h .ensures) (l .ensures)
-
-returns-3 : tie.Need-returns-3
-returns-3 c =
+returns : tie.Need-returns
+returns c =
     let s = now (c .before .before .before .before .before .before .before .before .before .before .args .s) in
     let r = c .before .before .before .before .before .before .before .lowered in
     let h = c .before .before .before .before .before .after-slash in
     let l = c .before .before .before .lowered2 in
-    malformed-is s (sym (formed-is s (r .result) (h .result) (l .result) (r .ensures) (h .ensures) (l .ensures)) ∙ sym (c .before .is-formed .ensures) ∙ c .if2 .left)
+    let i : isPlace s ≡ true = sym (formed-is s (r .result) (h .result) (l .result) (r .ensures) (h .ensures) (l .ensures)) ∙ sym (c .before .before .is-formed .ensures) ∙ c .before .if1 .taken in
+    c .formed-place .ensures ∙ words-place s (c .before .before .before .before .before .before .before .before .before .before .pre) i (r .result) (h .result) (l .result) (r .ensures) (h .ensures) (l .ensures)
+
+returns-2 : tie.Need-returns-2
+returns-2 c =
+    let s = now (c .before .before .before .before .before .before .before .before .before .args .s) in
+    let r = c .before .before .before .before .before .before .lowered in
+    let h = c .before .before .before .before .after-slash in
+    let l = c .before .before .lowered2 in
+    malformed-is s (sym (formed-is s (r .result) (h .result) (l .result) (r .ensures) (h .ensures) (l .ensures)) ∙ sym (c .before .is-formed .ensures) ∙ c .if1 .left)
 
 pub read-place-spec : {M : Type 1} → statement M
 read-place-spec =
@@ -99,8 +87,7 @@ read-place-spec =
     part-lowered-start-2
     part-lowered-end-2
     lowered-requires-2
-    returns
     is-formed-requires
     formed-place-requires
-    returns-2
-    returns-3)
+    returns
+    returns-2)

@@ -29,20 +29,20 @@ loop-holds c = (omega arith, refl, refl, refl)
 mul-at : tie.Need-mul-at Inv-loop μ-loop
 mul-at c = omega arith
 
-add-read-place : tie.Need-add-read-place Inv-loop μ-loop
-add-read-place c = omega arith
+add-read-sooner : tie.Need-add-read-sooner Inv-loop μ-loop
+add-read-sooner c = omega arith
 
-sub-read-place : tie.Need-sub-read-place Inv-loop μ-loop
-sub-read-place c = omega arith
+sub-read-sooner : tie.Need-sub-read-sooner Inv-loop μ-loop
+sub-read-sooner c = omega arith
 
-part-read-place-start : tie.Need-part-read-place-start Inv-loop μ-loop
-part-read-place-start c = omega arith
+part-read-sooner-start : tie.Need-part-read-sooner-start Inv-loop μ-loop
+part-read-sooner-start c = omega arith
 
-part-read-place-end : tie.Need-part-read-place-end Inv-loop μ-loop
-part-read-place-end c = omega arith
+part-read-sooner-end : tie.Need-part-read-sooner-end Inv-loop μ-loop
+part-read-sooner-end c = omega arith
 
-read-place-requires : tie.Need-read-place-requires Inv-loop μ-loop
-read-place-requires c κs = omega arith
+read-sooner-requires : tie.Need-read-sooner-requires Inv-loop μ-loop
+read-sooner-requires c κs = omega arith
 
 array-write-formed : tie.Need-array-write-formed Inv-loop μ-loop
 array-write-formed c = omega arith
@@ -69,9 +69,9 @@ loop-again : tie.Need-loop-again Inv-loop μ-loop
 loop-again c =
     let s = now (c .before .before .before .before .before .before .before .args .s) in
     let l = c .before .before .before .before .before .loop in
-    let p = c .before .before .read-place .result in
+    let p = c .before .before .read-sooner .result in
     let n : 24 * l .k + 24 - 24 * l .k ≡ 24 = omega arith in
-    let e : p ≡ placeOf (take 24 (drop (24 * l .k) s)) = c .before .before .read-place .ensures ∙ ap (λ (j : ℕ). placeOf (take j (drop (24 * l .k) s))) n in (
+    let e : p ≡ placeOf (take 24 (drop (24 * l .k) s)) = c .before .before .read-sooner .ensures ∙ ap (λ (j : ℕ). placeOf (take j (drop (24 * l .k) s))) n in (
       omega arith,
       column-more (λ (q : Place). q .formed) 10 s (replicate 10 false) refl (l .formed) (l .k) p (omega arith) e (l .inv .1),
       column-more (λ (q : Place). q .rate) 10 s (replicate 10 (record { 0 = 0 })) refl (l .rates) (l .k) p (omega arith) e (l .inv .2),
@@ -97,11 +97,11 @@ read-places-spec =
     μ-loop
     loop-holds
     mul-at
-    add-read-place
-    sub-read-place
-    part-read-place-start
-    part-read-place-end
-    read-place-requires
+    add-read-sooner
+    sub-read-sooner
+    part-read-sooner-start
+    part-read-sooner-end
+    read-sooner-requires
     array-write-formed
     mul-rates
     array-set-from-rates
