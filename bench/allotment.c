@@ -10,7 +10,7 @@
 #include <string.h>
 #include <time.h>
 
-enum { PLACES = 640, BOOKS = 3000, SHARES = 1024, RUNS = 25 };
+enum { CODES = 64, EACH = 10, PLACES = CODES * EACH, BOOKS = 3000, SHARES = 1024, RUNS = 25 };
 
 // The numbers past every rate that crate measured answers with.
 #define NO_RATE UINT64_C(4294967296)
@@ -23,15 +23,16 @@ typedef unsigned __int128 wide;
 
 // The exports of crate measured.
 uint64_t measured_share(uint64_t a, uint64_t m, uint64_t e);
-uint64_t measured_allot(bool lp, uint32_t limit, uint64_t offered, const uint32_t *rates,
-    size_t rates_length, const uint64_t *amounts, size_t amounts_length, uint64_t *awards,
-    size_t awards_length);
+uint64_t measured_allot(bool lp, uint32_t limit, uint64_t offered, const uint64_t *limits,
+    size_t limits_length, const uint32_t *rates, size_t rates_length, const uint64_t *amounts,
+    size_t amounts_length, uint64_t *awards, size_t awards_length);
 
-// An offer and the places of a book.
+// An offer, the credit limits of the counterparties (zero for none), and the places of a book.
 struct book {
     bool lp;
     uint32_t limit;
     uint64_t offered;
+    uint64_t limits[CODES];
     uint32_t rates[PLACES];
     uint64_t amounts[PLACES];
 };
@@ -59,8 +60,8 @@ struct share {
 
 static void library_allot(const struct book *b, struct allotment *result)
 {
-    result->marginal = measured_allot(b->lp, b->limit, b->offered, b->rates, PLACES, b->amounts,
-        PLACES, result->awards, PLACES);
+    result->marginal = measured_allot(b->lp, b->limit, b->offered, b->limits, CODES, b->rates, PLACES,
+        b->amounts, PLACES, result->awards, PLACES);
 }
 
 __attribute__((noinline)) static uint64_t reference_share(uint64_t a, uint64_t m, uint64_t e)
@@ -99,15 +100,53 @@ static bool is_in(const struct book *b, size_t i)
     return filled && (b->lp ? b->rates[i] >= b->limit : b->rates[i] <= b->limit);
 }
 
-// The bids in, best rate first and at one rate in book order.
-static size_t bids_in(const struct book *b, struct bid bids[PLACES])
+// The bids in at some of the places, best rate first and at one rate in book order.
+static size_t bids_in(const struct book *b, size_t from, size_t to, struct bid *bids)
 {
     size_t n = 0;
-    for (size_t i = 0; i < PLACES; i++)
+    for (size_t i = from; i < to; i++)
         if (is_in(b, i))
             bids[n++] = (struct bid){b->rates[i], b->amounts[i], i};
     qsort(bids, n, sizeof bids[0], b->lp ? highest_first : lowest_first);
     return n;
+}
+
+// Walks the bids in of one counterparty, and cuts those that its limit does not cover.
+static void cut_bids(struct book *b, size_t code)
+{
+    struct bid bids[EACH];
+    size_t n = bids_in(b, EACH * code, EACH * (code + 1), bids);
+    uint64_t left = b->limits[code];
+    for (size_t i = 0; i < n; i++) {
+        if (bids[i].amount <= left) {
+            left -= bids[i].amount;
+            continue;
+        }
+        b->amounts[bids[i].place] = left;
+        if (left == 0)
+            b->rates[bids[i].place] = 0;
+        left = 0;
+    }
+}
+
+static bool any_limit(const struct book *b)
+{
+    for (size_t i = 0; i < CODES; i++)
+        if (b->limits[i] != 0)
+            return true;
+    return false;
+}
+
+// The book whose bids are taken: the same, or where limits cut a copy with the bids cut.
+static const struct book *taken(const struct book *b, struct book *cut)
+{
+    if (!b->lp || !any_limit(b))
+        return b;
+    *cut = *b;
+    for (size_t i = 0; i < CODES; i++)
+        if (b->limits[i] != 0)
+            cut_bids(cut, i);
+    return cut;
 }
 
 // Shares what is left of the offer among the bids of one rate, then gives the leftover cents.
@@ -145,12 +184,13 @@ __attribute__((noinline)) static void reference_allot(const struct book *b,
     struct allotment *result)
 {
     struct bid bids[PLACES];
+    struct book cut;
     memset(result->awards, 0, sizeof result->awards);
     if (total(b) > MOST_BIDS) {
         result->marginal = EXCEEDS;
         return;
     }
-    size_t n = bids_in(b, bids);
+    size_t n = bids_in(taken(b, &cut), 0, PLACES, bids);
     uint64_t left = b->offered;
     for (size_t i = 0; i < n;) {
         uint64_t sum;
@@ -200,8 +240,10 @@ __attribute__((noinline)) static uint64_t scanned_marginal(const struct book *b)
 {
     uint64_t left = b->offered, sum;
     uint32_t rate = 0;
+    struct book cut;
     if (total(b) > MOST_BIDS)
         return EXCEEDS;
+    b = taken(b, &cut);
     for (bool some = false; next_rate(b, some, rate, &rate, &sum); some = true) {
         if (sum >= left)
             return rate;
@@ -264,6 +306,28 @@ static uint64_t random_offer(const struct book *b)
     }
 }
 
+// The amounts of one counterparty's bids, together.
+static wide total_of(const struct book *b, size_t code)
+{
+    wide sum = 0;
+    for (size_t i = EACH * code; i < EACH * (code + 1); i++)
+        sum += b->amounts[i];
+    return sum;
+}
+
+// No limits, or for some counterparties a limit of one cent, of anything up to more than their bids, or
+// of exactly the first of them.
+static void random_limits(struct book *b)
+{
+    bool none = random_below(3) == 0;
+    for (size_t i = 0; i < CODES; i++) {
+        wide all = total_of(b, i);
+        uint64_t any = (uint64_t)(random_number() % (all + all / 8 + 2));
+        uint64_t choices[] = {0, 1, any, b->amounts[EACH * i]};
+        b->limits[i] = none ? 0 : choices[random_below(4)];
+    }
+}
+
 // A book with few or many rates, some of its places empty.
 static void random_book(struct book *b)
 {
@@ -279,6 +343,7 @@ static void random_book(struct book *b)
         b->amounts[i] = filled ? random_amount(small) : 0;
     }
     b->offered = random_offer(b);
+    random_limits(b);
 }
 
 // A share as an allotment has it: the amount is part of the total, of which less is left of the offer.
@@ -309,6 +374,7 @@ static void fail_book(int k, const struct book *b, const struct allotment *libra
     print_number("marginal rate, library", library->marginal);
     print_number("marginal rate, reference", reference->marginal);
     print_number("place", i);
+    print_number("its limit", b->limits[i / EACH]);
     print_number("its rate", b->rates[i]);
     print_number("its amount", b->amounts[i]);
     print_number("its award, library", library->awards[i]);
@@ -319,7 +385,7 @@ static void fail_book(int k, const struct book *b, const struct allotment *libra
 // Compares random books, and counts each kind of answer so that none is missing.
 static void compare_books(void)
 {
-    unsigned met = 0, not_met = 0, refused = 0;
+    unsigned met = 0, not_met = 0, refused = 0, limited = 0;
     for (int k = 0; k < BOOKS; k++) {
         struct book b;
         struct allotment library, reference;
@@ -337,9 +403,10 @@ static void compare_books(void)
         met += reference.marginal < NO_RATE;
         not_met += reference.marginal == NO_RATE;
         refused += reference.marginal == EXCEEDS;
+        limited += b.lp && any_limit(&b);
     }
-    printf("%d books equal: offer met in %u, not met in %u, refused in %u\n", BOOKS, met, not_met,
-        refused);
+    printf("%d books equal: offer met in %u, not met in %u, refused in %u, limits in LP in %u\n", BOOKS,
+        met, not_met, refused, limited);
 }
 
 static void compare_shares(void)
@@ -440,13 +507,14 @@ static void swap_rates(uint32_t *x, uint32_t *y)
     *y = kept;
 }
 
-// A full book in LP with amounts of fifteen digits, half of their total offered; the rates are a step
-// apart and shuffled.
+// A full book in LP with amounts of fifteen digits, half of their total offered, and no limits; the rates
+// are a step apart and shuffled.
 static void fill_book(uint32_t step)
 {
     struct book *b = &measured_book;
     b->lp = true;
     b->limit = 100000;
+    memset(b->limits, 0, sizeof b->limits);
     for (uint32_t i = 0; i < PLACES; i++) {
         b->rates[i] = 100000 + step * i;
         b->amounts[i] = WIDEST_AMOUNT - random_below(WIDEST_AMOUNT / 10 * 9);
@@ -454,6 +522,15 @@ static void fill_book(uint32_t step)
     for (size_t i = PLACES - 1; i > 0; i--)
         swap_rates(&b->rates[i], &b->rates[random_below(i + 1)]);
     b->offered = (uint64_t)(total(b) / 2);
+}
+
+// Limits every counterparty to half of its bids, and offers half of what that leaves.
+static void limit_book(void)
+{
+    struct book *b = &measured_book;
+    for (size_t i = 0; i < CODES; i++)
+        b->limits[i] = (uint64_t)(total_of(b, i) / 2);
+    b->offered = (uint64_t)(total(b) / 4);
 }
 
 static void measure_all(void)
@@ -467,6 +544,8 @@ static void measure_all(void)
     fill_book(1000);
     measure("an allotment, 640 bids and rates", library_book, reference_book, 1000, "us");
     measure("the same, all places each rate", library_book, scanned_book, 1000, "us");
+    limit_book();
+    measure("640 bids, every code capped", library_book, reference_book, 1000, "us");
 }
 
 int main(int argc, char **argv)

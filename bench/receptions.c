@@ -23,8 +23,8 @@ enum { APPLICATION = 339, SENDER = 9, TIME = 50, AMOUNT = 90 };
 
 // The export of crate measured_receptions.
 uint64_t measured_receptions(const uint8_t *announcement, size_t announcement_length, const uint32_t *codes,
-    size_t codes_length, const uint8_t *messages, size_t messages_length, uint64_t date, uint64_t time,
-    uint8_t *space, size_t space_length);
+    size_t codes_length, const uint64_t *limits, size_t limits_length, const uint8_t *messages,
+    size_t messages_length, uint64_t date, uint64_t time, uint8_t *space, size_t space_length);
 
 struct part {
     const uint8_t *bytes;
@@ -106,10 +106,11 @@ static void admit(size_t codes, uint32_t admitted[MOST_CODES])
 static uint64_t by_value(size_t codes, size_t receptions, uint8_t space[SPACE])
 {
     struct part announcement = first_field(ANNOUNCEMENT);
+    static const uint64_t uncapped[MOST_CODES] = {0};
     uint32_t admitted[MOST_CODES];
     admit(codes, admitted);
-    return measured_receptions(announcement.bytes, announcement.length, admitted, codes, applications[0],
-        receptions * APPLICATION, 12032012, 103000, space, SPACE);
+    return measured_receptions(announcement.bytes, announcement.length, admitted, codes, uncapped, codes,
+        applications[0], receptions * APPLICATION, 12032012, 103000, space, SPACE);
 }
 
 static uint64_t held_in(const struct optes_book *book, size_t codes)

@@ -150,7 +150,7 @@ bool texts()
     const int number = OPTES_VERSION_NUMBER;
     const std::string version = std::to_string(number / 10000) + '.' + std::to_string(number / 100 % 100) + '.'
         + std::to_string(number % 100);
-    return refusals.size() == 21 && errors.size() == 20 && version == OPTES_VERSION;
+    return refusals.size() == 23 && errors.size() == 20 && version == OPTES_VERSION;
 }
 
 } // namespace

@@ -19,6 +19,7 @@ static const struct said refusals[] = {
     {7, "strictly rising"}, {8, "is revoked"}, {9, "closed or announced"}, {10, "date or time is invalid"},
     {11, "under 436"}, {12, "read as a 6G1"}, {13, "cut-off has not passed"}, {14, "is open"},
     {15, "is announced"}, {16, "999,999,999,999,999,999"}, {17, "too wide"}, {18, "339, 348 or 357"},
+    {19, "as many as the admitted codes"}, {20, "over fifteen digits"},
     {100, "no tender"},
 };
 
@@ -84,7 +85,7 @@ static void version(void)
 void text_cases(void)
 {
     version();
-    expect_texts(optes_refusal_text, refusals, COUNT(refusals), 19);
+    expect_texts(optes_refusal_text, refusals, COUNT(refusals), 99);
     expect_unknown(optes_refusal_text, refusals, COUNT(refusals), "a number that no call returns");
     expect_texts(optes_error_text, errors, COUNT(errors), 0);
     expect_unknown(optes_error_text, errors, COUNT(errors), "a code that no message is returned with");

@@ -1,13 +1,13 @@
 // An OPTES tender in C and C++: opened by a 6G0, filled by 6G1s, closed, allotted or revoked.
 //
 // Tender: it stands in a struct optes_book, which the host lends and never looks into. It may be copied by
-// assignment and saved as it is; there is nothing to release. Other calls than optes_book_open take it as
-// opening or an earlier call left it.
+// assignment and saved as it is; there is nothing to release. Calls that do not open a tender take it as
+// opening or an earlier call left it. What a version before 0.3.0 saved is no tender.
 // Threads: the library keeps no state, so calls on different tenders may run at the same time. While a call
 // runs, no other thread may write what it reads, or touch what it writes.
 // Refusals: a call that is refused returns the number of the refusal and changes nothing: no word of the
 // tender, no byte of the space, no number of an answer. Nothing else can go wrong.
-// Pointers: none may be null, even if it points to no bytes or codes. What a call writes must not overlap
+// Pointers: none may be null, even if it points to no bytes, codes or limits. What a call writes must not overlap
 // what it reads, nor what else it writes.
 // Dates are numbers ddmmyyyy and times hhmmss. Rates are in hundred-thousandths of a percent and amounts in
 // eurocents.
@@ -32,7 +32,7 @@
 #define OPTES_SIDE_LP 1
 
 // The sizes: of a tender, of what it holds, and of the least space for a reply.
-#define OPTES_BOOK_WORDS 1496
+#define OPTES_BOOK_WORDS 1560
 #define OPTES_BOOK_CODES 64
 #define OPTES_BOOK_CODE_PLACES 10
 #define OPTES_BOOK_PLACES 640
@@ -43,11 +43,15 @@
 // The highest code that a counterparty may have.
 #define OPTES_BOOK_CODE_MOST 99999
 
+// The highest credit limit, which has fifteen digits.
+#define OPTES_BOOK_LIMIT_MOST 999999999999999
+
 // How many numbers each of the calls below has to tell.
 #define OPTES_BOOK_ANSWER_NUMBERS 18
 #define OPTES_BOOK_MARGINAL_NUMBERS 2
 #define OPTES_BOOK_TERMS_NUMBERS 21
 #define OPTES_BOOK_CODES_NUMBERS 65
+#define OPTES_BOOK_LIMITS_NUMBERS 65
 #define OPTES_BOOK_HELD_NUMBERS 23
 
 #ifdef __cplusplus
@@ -60,7 +64,7 @@ extern "C" {
 // were. Words past OPTES_BOOK_WORDS are not looked at. Fewer are OPTES_NO_TENDER, which comes before every
 // other refusal; optes_words_open asks nothing else of the words, and sets all of them.
 uint64_t optes_words_open(uint64_t *words, size_t count, const uint8_t *m, size_t n, const uint32_t *codes,
-    size_t admitted);
+    size_t admitted, const uint64_t *limits, size_t limited);
 uint64_t optes_words_receive(uint64_t *words, size_t count, const uint8_t *m, size_t n, uint64_t date,
     uint64_t time, uint8_t *space, size_t room, uint64_t *told, size_t numbers);
 uint64_t optes_words_close(uint64_t *words, size_t count, uint64_t date, uint64_t time);
@@ -70,6 +74,7 @@ uint64_t optes_words_revoke(uint64_t *words, size_t count);
 uint64_t optes_words_state(const uint64_t *words, size_t count);
 uint64_t optes_words_terms(const uint64_t *words, size_t count, uint64_t *told, size_t numbers);
 uint64_t optes_words_codes(const uint64_t *words, size_t count, uint64_t *told, size_t numbers);
+uint64_t optes_words_limits(const uint64_t *words, size_t count, uint64_t *told, size_t numbers);
 uint64_t optes_words_held(const uint64_t *words, size_t count, uint64_t code, uint64_t *told,
     size_t numbers);
 
@@ -113,6 +118,12 @@ struct optes_codes {
     uint64_t codes[OPTES_BOOK_CODES]; // Rising, zeros past the last.
 };
 
+// The credit limits.
+struct optes_limits {
+    uint64_t count;
+    uint64_t limits[OPTES_BOOK_CODES]; // One for each code, in the order of the codes. Zeros past the last.
+};
+
 // What is held for a code. All numbers are 0 for a code that is not admitted.
 struct optes_held {
     uint64_t admitted; // 1 if the code is admitted, else 0.
@@ -122,12 +133,26 @@ struct optes_held {
     uint64_t amounts[OPTES_BOOK_CODE_PLACES];
 };
 
-// Opens a tender for the announcement of n bytes at m and the codes, which are in rising order. What stood in
-// the book before does not matter. Refused with 1 to 7.
+// Opens a tender for the announcement of n bytes at m and the codes, which are in rising order; nobody is
+// capped. What stood in the book before does not matter. Refused with 1 to 7.
 static inline uint64_t optes_book_open(struct optes_book *b, const uint8_t *m, size_t n,
     const uint32_t *codes, size_t count)
 {
-    return optes_words_open(b->words, OPTES_BOOK_WORDS, m, n, codes, count);
+    static const uint64_t uncapped[OPTES_BOOK_CODES] = {0};
+    // More codes are refused with 7 before the limits are looked at.
+    return optes_words_open(b->words, OPTES_BOOK_WORDS, m, n, codes, count, uncapped,
+        count < OPTES_BOOK_CODES ? count : OPTES_BOOK_CODES);
+}
+
+// Opens a tender with credit limits, which cap what the Treasury lends to each counterparty in LP: one for each
+// code, in the order of the codes, at most OPTES_BOOK_LIMIT_MOST each, and 0 for a counterparty that is not
+// capped. Before the awards the bids of each counterparty within the limit rate are cut, best rate first and
+// equal rates by place, so that they stay within its limit. In LA the limits are taken and cut nothing. Refused
+// with 1 to 7, 19 and 20.
+static inline uint64_t optes_book_open_limits(struct optes_book *b, const uint8_t *m, size_t n,
+    const uint32_t *codes, size_t count, const uint64_t *limits, size_t limit_count)
+{
+    return optes_words_open(b->words, OPTES_BOOK_WORDS, m, n, codes, count, limits, limit_count);
 }
 
 // Receives the n bytes at m at this date and time, and writes the reply to the start of the space, which has
@@ -147,7 +172,8 @@ static inline uint64_t optes_book_close(struct optes_book *b, uint64_t date, uin
     return optes_words_close(b->words, OPTES_BOOK_WORDS, date, time);
 }
 
-// Works out the awards and announces the tender. Refused with 8, 14, 15 and 16, or OPTES_NO_TENDER.
+// Works out the awards, which are those of the bids after the cuts by the credit limits, and announces the
+// tender. Refused with 8, 14, 15 and 16, or OPTES_NO_TENDER.
 static inline uint64_t optes_book_allot(struct optes_book *b, struct optes_allotment *a)
 {
     return optes_words_allot(b->words, OPTES_BOOK_WORDS, a->awards, OPTES_BOOK_PLACES, (uint64_t *)a,
@@ -166,7 +192,7 @@ static inline uint64_t optes_book_state(const struct optes_book *b)
     return optes_words_state(b->words, OPTES_BOOK_WORDS);
 }
 
-// Tells what was announced. Refused with OPTES_NO_TENDER alone, as are the next two.
+// Tells what was announced. Refused with OPTES_NO_TENDER alone, as are the next three.
 static inline uint64_t optes_book_terms(const struct optes_book *b, struct optes_terms *t)
 {
     uint64_t told[OPTES_BOOK_TERMS_NUMBERS];
@@ -195,7 +221,13 @@ static inline uint64_t optes_book_codes(const struct optes_book *b, struct optes
     return optes_words_codes(b->words, OPTES_BOOK_WORDS, (uint64_t *)c, OPTES_BOOK_CODES_NUMBERS);
 }
 
-// Tells what is held for a code.
+// Tells the credit limits.
+static inline uint64_t optes_book_limits(const struct optes_book *b, struct optes_limits *l)
+{
+    return optes_words_limits(b->words, OPTES_BOOK_WORDS, (uint64_t *)l, OPTES_BOOK_LIMITS_NUMBERS);
+}
+
+// Tells what is held for a code, whose amounts are those of its message, before any cut.
 static inline uint64_t optes_book_held(const struct optes_book *b, uint64_t code, struct optes_held *h)
 {
     return optes_words_held(b->words, OPTES_BOOK_WORDS, code, (uint64_t *)h, OPTES_BOOK_HELD_NUMBERS);

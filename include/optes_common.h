@@ -6,8 +6,8 @@
 #include <stdint.h>
 
 // The version of headers and archives, and as a number for #if: major * 10000 + minor * 100 + patch.
-#define OPTES_VERSION "0.2.0"
-#define OPTES_VERSION_NUMBER 200
+#define OPTES_VERSION "0.3.0"
+#define OPTES_VERSION_NUMBER 300
 
 // What a call returns: OPTES_OK, or the number of the first refusal that applies. optes_refusal_text says what
 // each means, and the headers say which ones a call has.
@@ -30,6 +30,8 @@
 #define OPTES_BIDS_EXCEED 16
 #define OPTES_UNFIT 17
 #define OPTES_NO_ROOM 18
+#define OPTES_LIMITS_MISCOUNTED 19
+#define OPTES_LIMIT_TOO_LONG 20
 #define OPTES_NO_TENDER 100
 
 // The errors with which a message is returned. optes_error_text says what each means; on the right is the
@@ -90,6 +92,8 @@ static inline const char *optes_refusal_text(uint64_t number)
         return "a number is too wide or was not read, a text is not of its length, an address is neither short "
                "nor long, or the identifier is malformed";
     case OPTES_NO_ROOM: return "the space for the message is under its 339, 348 or 357 bytes";
+    case OPTES_LIMITS_MISCOUNTED: return "the credit limits are not as many as the admitted codes";
+    case OPTES_LIMIT_TOO_LONG: return "a credit limit has over fifteen digits";
     case OPTES_NO_TENDER: return "there is no tender: what was lent is not as opening or another call left it";
     default: return "a number that no call returns";
     }

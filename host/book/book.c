@@ -9,14 +9,16 @@ unsigned long checks = 0;
 // The sizes of the header, and the refusals by document 01's numbers.
 static void constants(void)
 {
-    CHECK(OPTES_BOOK_WORDS == 1496 && OPTES_BOOK_CODES == 64 && OPTES_BOOK_PLACES == 640);
+    CHECK(OPTES_BOOK_WORDS == 1560 && OPTES_BOOK_CODES == 64 && OPTES_BOOK_PLACES == 640);
     CHECK(OPTES_BOOK_CODE_PLACES == 10 && OPTES_BOOK_ERRORS == 16 && OPTES_REPLY_BYTES == 436);
     CHECK(OPTES_BOOK_IDENTIFIER_BYTES == 11 && OPTES_BOOK_CODE_MOST == 99999);
+    CHECK(OPTES_BOOK_LIMIT_MOST == UINT64_C(999999999999999) && OPTES_BOOK_LIMITS_NUMBERS == 65);
     CHECK(OPTES_OK == 0 && OPTES_NOT_ANNOUNCEMENT == 1 && OPTES_OTHER_ORIGIN == 2 && OPTES_MALFORMED == 3);
     CHECK(OPTES_UNKNOWN_TYPE == 4 && OPTES_IMPOSSIBLE == 5 && OPTES_DISORDERED == 6 && OPTES_BAD_CODES == 7);
     CHECK(OPTES_ALREADY_REVOKED == 8 && OPTES_ALREADY_OVER == 9 && OPTES_CLOCK_INVALID == 10);
     CHECK(OPTES_SPACE_SHORT == 11 && OPTES_UNREADABLE == 12 && OPTES_BEFORE_CUT_OFF == 13);
     CHECK(OPTES_STILL_OPEN == 14 && OPTES_ALREADY_ANNOUNCED == 15 && OPTES_BIDS_EXCEED == 16);
+    CHECK(OPTES_LIMITS_MISCOUNTED == 19 && OPTES_LIMIT_TOO_LONG == 20);
     CHECK(OPTES_NO_TENDER == 100 && OPTES_SIDE_LA == 0 && OPTES_SIDE_LP == 1);
     CHECK(OPTES_STATE_OPEN == 0 && OPTES_STATE_CLOSED == 1);
     CHECK(OPTES_STATE_ANNOUNCED == 2 && OPTES_STATE_REVOKED == 3);
@@ -40,11 +42,12 @@ static void texts(void)
 // The structs that are passed as arrays have no room between their numbers.
 static void sizes(void)
 {
-    CHECK(sizeof(struct optes_book) == 1496 * sizeof(uint64_t));
+    CHECK(sizeof(struct optes_book) == 1560 * sizeof(uint64_t));
     CHECK(sizeof(struct optes_answer) == 18 * sizeof(uint64_t));
     CHECK(sizeof(struct optes_allotment) == 642 * sizeof(uint64_t));
     CHECK(offsetof(struct optes_allotment, marginal) == sizeof(uint64_t));
     CHECK(sizeof(struct optes_codes) == 65 * sizeof(uint64_t));
+    CHECK(sizeof(struct optes_limits) == 65 * sizeof(uint64_t));
     CHECK(sizeof(struct optes_held) == 23 * sizeof(uint64_t));
 }
 
@@ -55,10 +58,12 @@ static void cases(enum guard guard)
     desk_open(&d, guard);
     CHECK(guarded_stops(&d.words) && guarded_stops(&d.space) && guarded_stops(&d.told));
     CHECK(guarded_stops(&d.awards) && guarded_stops(&d.message) && guarded_stops(&d.codes));
+    CHECK(guarded_stops(&d.limits));
     opening_cases(&d);
     receiving_cases(&d);
     error_cases(&d);
     branch_cases(&d);
+    limit_cases(&d);
     ending_cases(&d);
     telling_cases(&d);
     saving_cases(&d);

@@ -117,6 +117,21 @@ bool branches()
         && ends(book, 22223, 60000, 17777);
 }
 
+// 90001 is capped at 200 euro, and what its bid of 500 euro would get of the rest goes to 90003.
+bool caps()
+{
+    constexpr std::array<uint64_t, 3> caps{20000, 0, OPTES_BOOK_LIMIT_MOST};
+    optes_book book{};
+    optes_limits limits{};
+    const auto *message = reinterpret_cast<const uint8_t *>(announcement);
+    return optes_book_open_limits(&book, message, sizeof announcement - 1, codes.data(), codes.size(),
+               caps.data(), 2) == OPTES_LIMITS_MISCOUNTED
+        && optes_book_open_limits(&book, message, sizeof announcement - 1, codes.data(), codes.size(),
+               caps.data(), caps.size()) == OPTES_OK
+        && optes_book_limits(&book, &limits) == OPTES_OK && limits.count == 3 && limits.limits[0] == 20000
+        && limits.limits[2] == OPTES_BOOK_LIMIT_MOST && fill(book) && ends(book, 13334, 60000, 26666);
+}
+
 // What the tender tells, and the refusals where it has none.
 bool tells()
 {
@@ -138,10 +153,10 @@ bool tells()
 
 int main()
 {
-    if (!copies() || !branches() || !tells()) {
+    if (!copies() || !branches() || !caps() || !tells()) {
         std::fputs("book_cpp: a tender is not as it was in C\n", stderr);
         return 1;
     }
-    std::puts("book_cpp: three tenders are announced");
+    std::puts("book_cpp: four tenders are announced");
     return 0;
 }

@@ -8,6 +8,7 @@ void opening_cases(const struct desk *d);
 void receiving_cases(const struct desk *d);
 void error_cases(const struct desk *d);
 void branch_cases(const struct desk *d);
+void limit_cases(const struct desk *d);
 void ending_cases(const struct desk *d);
 void telling_cases(const struct desk *d);
 void saving_cases(const struct desk *d);

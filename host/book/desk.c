@@ -19,6 +19,7 @@ void desk_open(struct desk *d, enum guard guard)
     guarded_open(&d->words, guard, MOST_WORDS * WORD);
     guarded_open(&d->message, guard, MOST_BYTES);
     guarded_open(&d->codes, guard, MOST_CODES * sizeof(uint32_t));
+    guarded_open(&d->limits, guard, MOST_CODES * WORD);
     guarded_open(&d->space, guard, MOST_BYTES);
     guarded_open(&d->told, guard, MOST_NUMBERS * WORD);
     guarded_open(&d->awards, guard, MOST_AWARDS * WORD);
@@ -33,6 +34,7 @@ void desk_close(struct desk *d)
     guarded_close(&d->words);
     guarded_close(&d->message);
     guarded_close(&d->codes);
+    guarded_close(&d->limits);
     guarded_close(&d->space);
     guarded_close(&d->told);
     guarded_close(&d->awards);
@@ -107,17 +109,26 @@ static uint64_t take_words(const struct desk *d, struct optes_book *b, const uin
     return answer;
 }
 
-uint64_t call_open(const struct desk *d, struct optes_book *b, const void *m, size_t n,
-    const uint32_t *codes, size_t admitted)
+uint64_t call_open_limits(const struct desk *d, struct optes_book *b, const void *m, size_t n,
+    const uint32_t *codes, size_t admitted, const uint64_t *limits, size_t limited)
 {
     uint64_t *words = lend_words(d, b);
     const uint8_t *message = guarded_copy(&d->message, m, n);
     const uint8_t *list = guarded_copy(&d->codes, codes, admitted * sizeof *codes);
+    const uint8_t *caps = guarded_copy(&d->limits, limits, limited * sizeof *limits);
     uint64_t answer = optes_words_open(words, d->count, message, n, (const uint32_t *)(const void *)list,
-        admitted);
+        admitted, (const uint64_t *)(const void *)caps, limited);
     CHECK(memcmp(message, m, n) == 0);
     CHECK(memcmp(list, codes, admitted * sizeof *codes) == 0);
+    CHECK(memcmp(caps, limits, limited * sizeof *limits) == 0);
     return take_words(d, b, words, answer);
+}
+
+uint64_t call_open(const struct desk *d, struct optes_book *b, const void *m, size_t n,
+    const uint32_t *codes, size_t admitted)
+{
+    static const uint64_t uncapped[MOST_CODES] = {0};
+    return call_open_limits(d, b, m, n, codes, admitted, uncapped, admitted);
 }
 
 uint64_t call_receive(const struct desk *d, struct optes_book *b, const void *m, size_t n,
@@ -183,6 +194,16 @@ uint64_t call_codes(const struct desk *d, const struct optes_book *b)
     uint64_t *told = lend_numbers(&d->told, d->numbers);
     uint64_t answer = optes_words_codes(words, d->count, told, d->numbers);
     expect_left(told, d->numbers, answer, OPTES_BOOK_CODES_NUMBERS);
+    expect_same_words(d, b, words);
+    return answer;
+}
+
+uint64_t call_limits(const struct desk *d, const struct optes_book *b)
+{
+    const uint64_t *words = lend_words(d, b);
+    uint64_t *told = lend_numbers(&d->told, d->numbers);
+    uint64_t answer = optes_words_limits(words, d->count, told, d->numbers);
+    expect_left(told, d->numbers, answer, OPTES_BOOK_LIMITS_NUMBERS);
     expect_same_words(d, b, words);
     return answer;
 }

@@ -11,6 +11,7 @@ struct desk {
     struct guarded words;
     struct guarded message;
     struct guarded codes;
+    struct guarded limits;
     struct guarded space;
     struct guarded told;
     struct guarded awards;
@@ -31,8 +32,10 @@ void desk_close(struct desk *d);
 
 // Each call takes the tender as it is and leaves what the archive left. A call that is refused is held to
 // leave every word, byte, number and award; one that is accepted, to leave those past what it gives.
+uint64_t call_open_limits(const struct desk *d, struct optes_book *b, const void *m, size_t n,
+    const uint32_t *codes, size_t admitted, const uint64_t *limits, size_t limited);
 uint64_t call_open(const struct desk *d, struct optes_book *b, const void *m, size_t n,
-    const uint32_t *codes, size_t admitted);
+    const uint32_t *codes, size_t admitted); // Nobody is capped.
 uint64_t call_receive(const struct desk *d, struct optes_book *b, const void *m, size_t n,
     struct moment at);
 uint64_t call_close(const struct desk *d, struct optes_book *b, struct moment at);
@@ -41,6 +44,7 @@ uint64_t call_revoke(const struct desk *d, struct optes_book *b);
 uint64_t call_state(const struct desk *d, const struct optes_book *b);
 uint64_t call_terms(const struct desk *d, const struct optes_book *b);
 uint64_t call_codes(const struct desk *d, const struct optes_book *b);
+uint64_t call_limits(const struct desk *d, const struct optes_book *b);
 uint64_t call_held(const struct desk *d, const struct optes_book *b, uint64_t code);
 
 // What the last call wrote.

@@ -102,7 +102,8 @@ static void lists(const struct desk *d)
     CHECK(with_codes(d, (uint32_t[]){1, UINT32_MAX}, 2) == 7);
 }
 
-// An announcement with every fault but the first is refused with the least number of those left.
+// An announcement with every fault but the first is refused with the least number of those left. After them come
+// the codes, and then the limits: how many they are, and how wide.
 static void first_refusal(const struct desk *d)
 {
     const struct change faults[] = {
@@ -110,14 +111,18 @@ static void first_refusal(const struct desk *d)
         {A_MOST, "99", 5}, {A_SPOT, "01032012", 6},
     };
     const size_t count = sizeof faults / sizeof *faults;
+    const uint64_t wide[] = {UINT64_MAX, UINT64_MAX, UINT64_MAX, UINT64_MAX};
+    struct optes_book sound = any_words(7);
     for (size_t from = 0; from <= count; from++) {
         struct optes_book b = any_words(7);
         uint8_t m[ANNOUNCEMENT_BYTES];
         memcpy(m, announcement, sizeof m);
         for (size_t k = from; k < count; k++)
             put_text(m, faults[k].at, faults[k].text);
-        CHECK(call_open(d, &b, m, sizeof m, codes, 0) == from + 1);
+        CHECK(call_open_limits(d, &b, m, sizeof m, codes, 0, wide, CODES) == from + 1);
     }
+    CHECK(call_open_limits(d, &sound, announcement, ANNOUNCEMENT_BYTES, codes, CODES, wide, CODES + 1) == 19);
+    CHECK(call_open_limits(d, &sound, announcement, ANNOUNCEMENT_BYTES, codes, CODES, wide, CODES) == 20);
 }
 
 // An opening sets every word, whatever stood there, and leaves those past the tender.
@@ -138,9 +143,11 @@ static void too_few_words(const struct desk *d)
 {
     struct desk less = *d;
     struct optes_book b = any_words(17);
+    const uint64_t none = 0;
     for (less.count = 0; less.count < OPTES_BOOK_WORDS; less.count++) {
         CHECK(call_open(&less, &b, announcement, ANNOUNCEMENT_BYTES, codes, CODES) == 100);
         CHECK(call_open(&less, &b, announcement, 0, codes, 0) == 100);
+        CHECK(call_open_limits(&less, &b, announcement, ANNOUNCEMENT_BYTES, codes, CODES, &none, 1) == 100);
     }
 }
 

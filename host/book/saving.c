@@ -58,8 +58,22 @@ static void saved(const struct desk *d)
     CHECK(call_state(d, &b) == 2 && call_allot(d, &b) == 15);
 }
 
+// The limits go with the tender, copied or saved, until its awards.
+static void limits_kept(const struct desk *d)
+{
+    const uint64_t limits[CODES] = {40000, 0, OPTES_BOOK_LIMIT_MOST};
+    struct optes_book first = opened_limits(d, 0, "", limits), b = read_back(&first), copy;
+    confirmed(d, &b, 90001, 102900, (struct bid){150000, 100000});
+    b = read_back(&b);
+    confirmed(d, &b, 90002, 102900, (struct bid){150000, 100000});
+    copy = read_back(&b);
+    CHECK(call_limits(d, &copy) == 0 && memcmp(desk_told(d) + 1, limits, sizeof limits) == 0);
+    CHECK(first_award(d, b) == 28572 && first_award(d, copy) == 28572);
+}
+
 void saving_cases(const struct desk *d)
 {
     copied(d);
     saved(d);
+    limits_kept(d);
 }

@@ -88,6 +88,42 @@ static void tells(const struct desk *d)
     CHECK(memcmp(b, &before, sizeof before) == 0);
 }
 
+// A tender with limits, one that nobody is capped in, and openings that are refused.
+static void limits(const struct desk *d)
+{
+    const uint64_t caps[] = {40000, 0, OPTES_BOOK_LIMIT_MOST}, wide = OPTES_BOOK_LIMIT_MOST + UINT64_C(1);
+    const uint8_t *m = (const uint8_t *)announcement;
+    const struct optes_book any = {{1, 2, 3}};
+    struct optes_book *b = book_of(d, &any);
+    struct optes_limits *l = GUARDED(&d->told, struct optes_limits);
+    CHECK(optes_book_limits(b, l) == OPTES_NO_TENDER);
+    pattern_expect((const uint8_t *)l, 0, sizeof *l);
+    CHECK(optes_book_open_limits(b, m, ANNOUNCEMENT_BYTES, codes, CODES, caps, 2) == OPTES_LIMITS_MISCOUNTED);
+    CHECK(optes_book_open_limits(b, m, ANNOUNCEMENT_BYTES, codes, 1, &wide, 1) == OPTES_LIMIT_TOO_LONG);
+    CHECK(memcmp(b, &any, sizeof any) == 0);
+    CHECK(optes_book_open_limits(b, m, ANNOUNCEMENT_BYTES, codes, CODES, caps, CODES) == OPTES_OK);
+    CHECK(optes_book_limits(b, l) == OPTES_OK);
+    CHECK(l->count == 3 && l->limits[0] == 40000 && l->limits[1] == 0 && l->limits[2] == OPTES_BOOK_LIMIT_MOST);
+    CHECK(l->limits[3] == 0 && l->limits[OPTES_BOOK_CODES - 1] == 0);
+    CHECK(optes_book_open(b, m, ANNOUNCEMENT_BYTES, codes, CODES) == OPTES_OK);
+    CHECK(optes_book_limits(b, l) == OPTES_OK && l->count == 3 && l->limits[0] == 0 && l->limits[2] == 0);
+}
+
+// Without limits as many codes are taken as with them.
+static void many_codes(void)
+{
+    uint32_t many[100];
+    struct optes_book b = {{0}};
+    struct optes_limits l = {0};
+    for (uint32_t k = 0; k < 100; k++)
+        many[k] = 90001 + k;
+    for (size_t n = 0; n <= 100; n++) {
+        const uint64_t refusal = n >= 1 && n <= OPTES_BOOK_CODES ? OPTES_OK : OPTES_BAD_CODES;
+        CHECK(optes_book_open(&b, (const uint8_t *)announcement, ANNOUNCEMENT_BYTES, many, n) == refusal);
+        CHECK(refusal != OPTES_OK || (optes_book_limits(&b, &l) == OPTES_OK && l.count == n));
+    }
+}
+
 // Different terms, so that none is taken for another.
 static void other_terms(const struct desk *d)
 {
@@ -112,6 +148,7 @@ static void no_tender(const struct desk *d)
     CHECK(optes_book_close(b, 12032012, 110001) == OPTES_NO_TENDER);
     CHECK(optes_book_allot(b, a) == OPTES_NO_TENDER && optes_book_terms(b, t) == OPTES_NO_TENDER);
     CHECK(optes_book_codes(b, (struct optes_codes *)a) == OPTES_NO_TENDER);
+    CHECK(optes_book_limits(b, (struct optes_limits *)a) == OPTES_NO_TENDER);
     CHECK(optes_book_held(b, 90001, (struct optes_held *)a) == OPTES_NO_TENDER);
     CHECK(optes_book_receive(b, space, 0, 0, 0, space, 0, &answer) == OPTES_NO_TENDER);
     pattern_expect((const uint8_t *)t, 0, sizeof *t);
@@ -124,6 +161,8 @@ void struct_cases(const struct desk *d)
     receives(d);
     ends(d);
     tells(d);
+    limits(d);
+    many_codes();
     other_terms(d);
     no_tender(d);
 }

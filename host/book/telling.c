@@ -19,6 +19,8 @@ static const uint64_t worked_terms[OPTES_BOOK_TERMS_NUMBERS] = {
 
 static const uint64_t worked_codes[OPTES_BOOK_CODES_NUMBERS] = {3, 90001, 90002, 90003};
 
+static const uint64_t worked_limits[OPTES_BOOK_LIMITS_NUMBERS] = {3};
+
 static const uint64_t worked_held[OPTES_BOOK_HELD_NUMBERS] = {
     1, 1, 102900, 150000, 0, 0, 0, 0, 0, 0, 0, 0, 0, 60000,
 };
@@ -33,6 +35,8 @@ static void every_length(const struct desk *d)
         expect_told(&other, worked_terms, OPTES_BOOK_TERMS_NUMBERS);
         CHECK(call_codes(&other, &b) == 0);
         expect_told(&other, worked_codes, OPTES_BOOK_CODES_NUMBERS);
+        CHECK(call_limits(&other, &b) == 0);
+        expect_told(&other, worked_limits, OPTES_BOOK_LIMITS_NUMBERS);
         CHECK(call_held(&other, &b, 90002) == 0);
         expect_told(&other, worked_held, OPTES_BOOK_HELD_NUMBERS);
     }
@@ -104,7 +108,8 @@ static void more_words(const struct desk *d)
     more.count = OPTES_BOOK_WORDS + 4;
     const struct optes_book b = announced(&more);
     CHECK(call_state(&more, &b) == 2);
-    CHECK(call_terms(&more, &b) == 0 && call_codes(&more, &b) == 0 && call_held(&more, &b, 1) == 0);
+    CHECK(call_terms(&more, &b) == 0 && call_codes(&more, &b) == 0 && call_limits(&more, &b) == 0);
+    CHECK(call_held(&more, &b, 1) == 0);
 }
 
 void telling_cases(const struct desk *d)

@@ -65,16 +65,19 @@ static void receive(struct work *w, uint64_t *seed, struct optes_book *b)
     add(w, &answer, sizeof answer);
 }
 
-// A tender from its announcement to its awards.
+// A tender from its announcement to its awards, in which every other code is capped.
 static void tender(struct work *w, uint64_t *seed)
 {
     uint32_t codes[OPTES_BOOK_CODES];
+    uint64_t limits[OPTES_BOOK_CODES];
     struct optes_book b = {{0}};
     struct optes_allotment a = {0};
-    for (uint32_t k = 0; k < OPTES_BOOK_CODES; k++)
+    for (uint32_t k = 0; k < OPTES_BOOK_CODES; k++) {
         codes[k] = 90001 + k;
-    w->wrong += optes_book_open(&b, (const uint8_t *)announcement, ANNOUNCEMENT_BYTES, codes,
-        OPTES_BOOK_CODES) != 0;
+        limits[k] = k % 2 == 0 ? 0 : 1 + next(seed, 100000);
+    }
+    w->wrong += optes_book_open_limits(&b, (const uint8_t *)announcement, ANNOUNCEMENT_BYTES, codes,
+        OPTES_BOOK_CODES, limits, OPTES_BOOK_CODES) != 0;
     for (int k = 0; k < RECEPTIONS; k++)
         receive(w, seed, &b);
     w->wrong += optes_book_close(&b, 12032012, 110001) != 0;

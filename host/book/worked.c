@@ -17,10 +17,16 @@ struct optes_book opened(const struct desk *d)
 
 struct optes_book opened_with(const struct desk *d, size_t at, const char *text)
 {
+    const uint64_t uncapped[CODES] = {0};
+    return opened_limits(d, at, text, uncapped);
+}
+
+struct optes_book opened_limits(const struct desk *d, size_t at, const char *text, const uint64_t *limits)
+{
     struct optes_book b = {{0}};
     uint8_t m[ANNOUNCEMENT_BYTES];
     announcement_with(m, at, text);
-    CHECK(call_open(d, &b, m, sizeof m, codes, CODES) == 0);
+    CHECK(call_open_limits(d, &b, m, sizeof m, codes, CODES, limits, CODES) == 0);
     return b;
 }
 

@@ -26,6 +26,9 @@ struct optes_book revoked(const struct desk *d);
 // The tender that is opened by the announcement with this text at this index.
 struct optes_book opened_with(const struct desk *d, size_t at, const char *text);
 
+// The same with these credit limits, one for each code.
+struct optes_book opened_limits(const struct desk *d, size_t at, const char *text, const uint64_t *limits);
+
 // An application with one bid is received in time and confirmed.
 void confirmed(const struct desk *d, struct optes_book *b, uint64_t code, uint64_t time, struct bid bid);
 

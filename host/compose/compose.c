@@ -20,7 +20,10 @@ static void add_step(const struct line *line, void *into)
 {
     struct bytes *session = into;
     struct step step = step_of(line);
-    if (!step.raw) {
+    if (step.kind == STEP_LIMITS)
+        refuse(line, "limits stand in no session, and nobody is capped in its log: expected another step, or "
+            "./rehearse for the script");
+    if (step.kind == STEP_FIELD) {
         bytes_add_one(session, step.tag);
         bytes_add_one(session, (uint8_t)(step.held.length >> 8));
         bytes_add_one(session, (uint8_t)(step.held.length & 0xff));

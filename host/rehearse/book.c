@@ -14,6 +14,19 @@ static void show_amount(const char *name, uint64_t cents)
     printf("        %-20s%s euro\n", name, euro(cents).text);
 }
 
+// The limit of each code that is capped.
+static void show_limits(const struct optes_book *book, uint64_t side)
+{
+    struct optes_codes admitted;
+    struct optes_limits capped;
+    if (optes_book_codes(book, &admitted) != OPTES_OK || optes_book_limits(book, &capped) != OPTES_OK)
+        return;
+    for (size_t k = 0; k < capped.count; k++)
+        if (capped.limits[k] > 0)
+            printf("        limit of %05" PRIu64 "      %s euro%s\n", admitted.codes[k], euro(capped.limits[k]).text,
+                side == OPTES_SIDE_LP ? "" : ", which cuts nothing in LA");
+}
+
 void show_terms(const struct optes_book *book)
 {
     struct optes_terms t;
@@ -34,6 +47,7 @@ void show_terms(const struct optes_book *book)
         show_amount("maximum", t.maximum);
     show_amount("minimum allocation", t.minimum_allocation);
     printf("        limit rate          %s %%\n", percent(t.limit_rate).text);
+    show_limits(book, t.side);
 }
 
 // Whether there is a bid in a place.
@@ -67,14 +81,57 @@ struct totals {
     uint64_t awards;
 };
 
-static void show_row(const char *head, const char *rate, uint64_t bid, uint64_t award, int width)
+// The columns of the awards: how wide those of amounts are, or 0 where nothing is shown; the limits that cut; and
+// how wide their column is, or 0 where nobody is capped.
+struct columns {
+    int width;
+    struct optes_limits limits;
+    int limit_width;
+};
+
+// The limits of a tender in LP. In LA none cuts.
+static struct optes_limits limits_that_cut(const struct optes_book *book)
 {
-    printf("        %-11s  %9s  %*s  %*s\n", head, rate, width, euro(bid).text, width, euro(award).text);
+    const struct optes_limits none = {0};
+    struct optes_limits limits;
+    struct optes_terms t;
+    if (optes_book_terms(book, &t) != OPTES_OK || t.side != OPTES_SIDE_LP)
+        return none;
+    return optes_book_limits(book, &limits) == OPTES_OK ? limits : none;
 }
 
-// Adds the bids of one code, and shows them where there is a width to show them in.
-static void add_code(struct totals *totals, const struct optes_held *h, uint64_t code,
-    const uint64_t *awards, int width)
+// The width of a column that has this one so far, and these cents too.
+static int widened(int width, uint64_t cents)
+{
+    int length = (int)strlen(euro(cents).text);
+    width = width < LEAST_WIDTH ? LEAST_WIDTH : width;
+    return width < length ? length : width;
+}
+
+static struct columns columns_of(const struct optes_book *book, uint64_t bids)
+{
+    struct columns columns = {.width = widened(0, bids), .limits = limits_that_cut(book)};
+    for (size_t k = 0; k < columns.limits.count; k++)
+        if (columns.limits.limits[k] > 0)
+            columns.limit_width = widened(columns.limit_width, columns.limits.limits[k]);
+    return columns;
+}
+
+static void show_row(const char *head, const char *rate, uint64_t bid, uint64_t award, int width)
+{
+    printf("        %-11s  %9s  %*s  %*s", head, rate, width, euro(bid).text, width, euro(award).text);
+}
+
+static void show_limit(uint64_t limit, int width)
+{
+    if (limit > 0)
+        printf("  %*s", width, euro(limit).text);
+    putchar('\n');
+}
+
+// Adds the bids of the code of this index, and shows them where there is a width to show them in.
+static void add_code(struct totals *totals, const struct optes_held *h, uint64_t code, size_t index,
+    const uint64_t *awards, const struct columns *columns)
 {
     for (size_t k = 0; k < OPTES_BOOK_CODE_PLACES; k++) {
         if (!is_filled(h, k))
@@ -82,15 +139,17 @@ static void add_code(struct totals *totals, const struct optes_held *h, uint64_t
         totals->places++;
         totals->bids += h->amounts[k];
         totals->awards += awards[k];
-        if (width > 0) {
+        if (columns->width > 0) {
             char head[FIGURE_ROOM];
             snprintf(head, sizeof head, "%05" PRIu64 " %5zu", code, k + 1);
-            show_row(head, percent(h->rates[k]).text, h->amounts[k], awards[k], width);
+            show_row(head, percent(h->rates[k]).text, h->amounts[k], awards[k], columns->width);
+            show_limit(columns->limits.limits[index], columns->limit_width);
         }
     }
 }
 
-static struct totals add_codes(const struct optes_book *book, const struct optes_allotment *given, int width)
+static struct totals add_codes(const struct optes_book *book, const struct optes_allotment *given,
+    const struct columns *columns)
 {
     struct totals totals = {0};
     struct optes_codes admitted = {0};
@@ -99,25 +158,36 @@ static struct totals add_codes(const struct optes_book *book, const struct optes
         return totals;
     for (size_t k = 0; k < admitted.count; k++)
         if (optes_book_held(book, admitted.codes[k], &h) == OPTES_OK)
-            add_code(&totals, &h, admitted.codes[k], given->awards + OPTES_BOOK_CODE_PLACES * k, width);
+            add_code(&totals, &h, admitted.codes[k], k, given->awards + OPTES_BOOK_CODE_PLACES * k, columns);
     return totals;
+}
+
+static void show_table(const struct optes_book *book, const struct optes_allotment *given,
+    const struct totals *totals, const struct columns *columns)
+{
+    const int width = columns->width;
+    puts("    awards in euro");
+    printf("        %-11s  %9s  %*s  %*s", "code  place", "rate in %", width, "bid", width, "award");
+    if (columns->limit_width > 0)
+        printf("  %*s", columns->limit_width, "limit");
+    putchar('\n');
+    add_codes(book, given, columns);
+    show_row("total", "", totals->bids, totals->awards, width);
+    putchar('\n');
 }
 
 void show_awards(const struct optes_book *book, const struct optes_allotment *given)
 {
-    struct totals totals = add_codes(book, given, 0);
-    int width = (int)strlen(euro(totals.bids).text);
-    width = width < LEAST_WIDTH ? LEAST_WIDTH : width;
-    if (totals.places == 0) {
+    const struct columns none = {0};
+    struct totals totals = add_codes(book, given, &none);
+    const struct columns columns = columns_of(book, totals.bids);
+    if (totals.places == 0)
         puts("    there are no bids");
-    } else {
-        puts("    awards in euro");
-        printf("        %-11s  %9s  %*s  %*s\n", "code  place", "rate in %", width, "bid", width, "award");
-        add_codes(book, given, width);
-        show_row("total", "", totals.bids, totals.awards, width);
-    }
+    else
+        show_table(book, given, &totals, &columns);
     if (given->has_marginal)
         printf("    marginal rate %s %%\n", percent(given->marginal).text);
     else
-        puts("    no marginal rate: the bids within the limit rate do not reach the amount offered");
+        printf("    no marginal rate: the bids within the limit rate%s do not reach the amount offered\n",
+            columns.limit_width > 0 ? " and the credit limits" : "");
 }

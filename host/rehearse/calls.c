@@ -4,6 +4,7 @@
 #include <stdio.h>
 
 #include "book.h"
+#include "figures.h"
 #include "reply.h"
 #include "texts.h"
 #include "values.h"
@@ -71,7 +72,9 @@ static const char *call_form(uint8_t tag)
 
 void expect_call(const struct line *line, const struct step *step)
 {
-    if (step->raw)
+    if (step->kind == STEP_LIMITS)
+        return;
+    if (step->kind == STEP_RAW)
         refuse(line, "raw bytes make no call: expected another step, or field with a tag from A0 to A5");
     if (step->tag < TAG_ADMIT || step->tag > TAG_ALLOT)
         refuse(line, "tag '%02X' makes no call: expected a tag from A0 to A5", step->tag);
@@ -83,6 +86,7 @@ void expect_call(const struct line *line, const struct step *step)
 static void admit(struct rehearsal *r, const struct bytes *held)
 {
     r->count = 0;
+    r->limited = false;
     for (size_t at = 0; at < held->length; at += CODE_DIGITS) {
         r->codes = grown(r->codes, r->count, &r->room, sizeof *r->codes);
         r->codes[r->count++] = (uint32_t)number_at(held->at + at, CODE_DIGITS);
@@ -93,6 +97,38 @@ static void admit(struct rehearsal *r, const struct bytes *held)
     putchar('\n');
 }
 
+// A pointer of a call may not be null, though there is nothing to point to.
+static const void *not_null(const void *pointer)
+{
+    static const uint64_t nothing = 0;
+    return pointer != NULL ? pointer : &nothing;
+}
+
+// The limits that are kept, and how many there are.
+static const uint64_t *kept_limits(const struct rehearsal *r, size_t *count)
+{
+    *count = r->limits.length / sizeof(uint64_t);
+    return not_null(r->limits.at);
+}
+
+// Keeps the limits, and shows each beside the code that it is for, where there is one.
+static void keep_limits(struct rehearsal *r, const struct bytes *held)
+{
+    size_t count;
+    bytes_free(&r->limits);
+    bytes_add(&r->limits, held->at, held->length);
+    r->limited = true;
+    const uint64_t *limits = kept_limits(r, &count);
+    printf("    credit limits kept for the next announcement: %zu\n", count);
+    for (size_t k = 0; k < count; k++) {
+        if (k < r->count)
+            printf("        %05" PRIu32 "               ", r->codes[k]);
+        else
+            printf("        no code             ");
+        printf("%s%s\n", limits[k] == 0 ? "uncapped" : euro(limits[k]).text, limits[k] == 0 ? "" : " euro");
+    }
+}
+
 // Shows a refusal, and gives whether the call was accepted.
 static bool accepted(uint64_t answer)
 {
@@ -101,16 +137,20 @@ static bool accepted(uint64_t answer)
     return answer == OPTES_OK;
 }
 
-// A pointer of a call may not be null, though there is nothing to point to.
-static const void *not_null(const void *pointer)
+static uint64_t open_tender(struct rehearsal *r, const struct bytes *held)
 {
-    static const uint64_t nothing = 0;
-    return pointer != NULL ? pointer : &nothing;
+    const uint8_t *message = not_null(held->at);
+    const uint32_t *codes = not_null(r->codes);
+    size_t count;
+    const uint64_t *limits = kept_limits(r, &count);
+    if (!r->limited)
+        return optes_book_open(&r->book, message, held->length, codes, r->count);
+    return optes_book_open_limits(&r->book, message, held->length, codes, r->count, limits, count);
 }
 
 static void announce(struct rehearsal *r, const struct bytes *held)
 {
-    if (accepted(optes_book_open(&r->book, not_null(held->at), held->length, not_null(r->codes), r->count))) {
+    if (accepted(open_tender(r, held))) {
         puts("    opened");
         show_terms(&r->book);
     }
@@ -152,6 +192,10 @@ static void revoke(struct rehearsal *r)
 
 void make_call(struct rehearsal *r, const struct step *step)
 {
+    if (step->kind == STEP_LIMITS) {
+        keep_limits(r, &step->held);
+        return;
+    }
     switch (step->tag) {
     case TAG_ADMIT:
         admit(r, &step->held);

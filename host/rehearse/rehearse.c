@@ -77,6 +77,7 @@ static void play(struct scenes *scenes)
         bytes_free(&scenes->at[k].step.held);
     }
     free(rehearsal.codes);
+    bytes_free(&rehearsal.limits);
     free(scenes->at);
 }
 

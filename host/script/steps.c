@@ -6,6 +6,9 @@
 
 #define FIELD_MOST 65535
 
+// As wide as 64 bits hold, so that the refusal of a limit can be seen.
+static const struct value limit_value = {"limit", "AMOUNT in eurocents", 20};
+
 static void hold_codes(struct bytes *held, const struct line *line)
 {
     for (size_t i = 1; i < line->count; i++) {
@@ -56,9 +59,20 @@ static const struct named_step steps[] = {
 // The bytes of a line `raw BYTES ..` as they are.
 static struct step raw_step(const struct line *line)
 {
-    struct step step = {.raw = true};
+    struct step step = {.kind = STEP_RAW};
     expect_words(line, 2, "raw BYTES ..");
     add_raw(&step.held, line, 1);
+    return step;
+}
+
+// The limits of a line `limits AMOUNT ..`.
+static struct step limits_step(const struct line *line)
+{
+    struct step step = {.kind = STEP_LIMITS};
+    for (size_t i = 1; i < line->count; i++) {
+        uint64_t limit = number_of(line, &line->words[i], &limit_value);
+        bytes_add(&step.held, &limit, sizeof limit);
+    }
     return step;
 }
 
@@ -76,6 +90,7 @@ static _Noreturn void refuse_step(const struct line *line)
     struct bytes names = {0};
     for (size_t k = 0; k < sizeof steps / sizeof *steps; k++)
         bytes_add_name(&names, steps[k].name);
+    bytes_add_name(&names, "limits");
     bytes_add_name(&names, "field");
     bytes_add_name(&names, "raw");
     refuse(line, "step '%s' is not known; steps are %.*s", shown(&line->words[0]).text, (int)names.length,
@@ -98,6 +113,8 @@ struct step step_of(const struct line *line)
 {
     if (word_is(&line->words[0], "raw"))
         return raw_step(line);
+    if (word_is(&line->words[0], "limits"))
+        return limits_step(line);
     struct step step = word_is(&line->words[0], "field") ? any_field(line) : step_by_name(line);
     if (step.held.length > FIELD_MOST)
         refuse(line, "the field would hold %zu bytes: expected at most %d", step.held.length, FIELD_MOST);

@@ -2,15 +2,16 @@
 #ifndef SCRIPT_STEPS_H
 #define SCRIPT_STEPS_H
 
-#include <stdbool.h>
+#include <stdint.h>
 
 #include "bytes.h"
 #include "line.h"
 
-// What a step comes to: a field of this tag that holds these bytes, at most 65,535 of them, or bytes that
-// are no field.
+// What a step comes to: a field of this tag that holds these bytes, at most 65,535 of them; bytes that are no
+// field; or credit limits, which no session has and which are held as one uint64_t each.
+enum step_kind { STEP_FIELD, STEP_RAW, STEP_LIMITS };
 struct step {
-    bool raw;
+    enum step_kind kind;
     uint8_t tag;
     struct bytes held;
 };

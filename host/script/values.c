@@ -43,8 +43,12 @@ uint64_t number_of(const struct line *line, const struct word *word, const struc
 {
     expect_digits(line, word, value);
     uint64_t number = 0;
-    for (size_t i = 0; i < word->length; i++)
-        number = number * 10 + (uint64_t)(word->text[i] - '0');
+    for (size_t i = 0; i < word->length; i++) {
+        uint64_t digit = (uint64_t)(word->text[i] - '0');
+        if (number > (UINT64_MAX - digit) / 10)
+            refuse_digits(line, word, value, "is over 18446744073709551615");
+        number = number * 10 + digit;
+    }
     return number;
 }
 

@@ -21,7 +21,7 @@ extern const struct value code_value;
 
 // Every call below refuses the line where the word is not what the call reads.
 
-// The number of a word of one to width digits; the width is at most 18.
+// The number of a word of one to width digits, which 64 bits hold.
 uint64_t number_of(const struct line *line, const struct word *word, const struct value *value);
 
 // Puts the word's digits at the place of this width, with zeros before them.

@@ -86,7 +86,8 @@ fn begin(
     };
     let rates = b.rates;
     let amounts = b.amounts;
-    let a = allot(o, &rates, &amounts, awards);
+    let limits = b.limits;
+    let a = allot(o, &limits, &rates, &amounts, awards);
     printing::text(name);
     print_refusal(a.exceeds);
     a.marginal

@@ -13,6 +13,7 @@ pub fn full_books() {
     let level = Bids {
         rates: [120000u32; 640],
         amounts: [WIDEST; 640],
+        limits: [0u64; 64],
     };
     let rising = Bids::at_rising_rates(WIDEST);
     summed(b"one rate", Side::Lp, 120000, WIDEST, level);

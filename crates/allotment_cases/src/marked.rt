@@ -16,7 +16,7 @@ pub fn marked() {
     case(b"M9", Side::Lp, 100000, 10000, three);
 }
 
-// One billion euro collected and invested: shares in cents, and no limit of credit.
+// One billion euro collected and invested: shares in cents, without a limit of credit and with the example's of 250 million euro.
 pub fn example() {
     let b = Bids::none()
         .bid(0, 171100, 1_000_000_000)
@@ -27,4 +27,6 @@ pub fn example() {
         .bid(12, 105500, 10_000_000_000);
     case(b"2.c LA", Side::La, 169000, 100_000_000_000, b);
     case(b"2.c LP", Side::Lp, 81700, 100_000_000_000, b);
+    let limited = b.limit(1, 25_000_000_000);
+    case(b"2.c LP limited", Side::Lp, 81700, 100_000_000_000, limited);
 }

@@ -13,15 +13,6 @@ use Rattle.rules.specs.Allotment.{Bid, noBid, filled, keep, total}
 use Rattle.rules.specs.Opening.{any}
 use Rattle.rules.specs.Receiving.{gap}
 
--- the loop over a test of some bid: one more, and the end
-pub any-more : (p : Bid → Bool) (found : Bool) (bs : List Bid) (k : ℕ) → k < length bs → ((found || p (getD bs k noBid)) || any p (drop (k + 1) bs)) ≡ (found || any p (drop k bs))
-unfolding any
-any-more p found bs k h = rw (drop-cons bs k noBid h, add-one) (or-assoc found (p (getD bs k noBid)) (any p (drop (suc k) bs)))
-
-pub any-end : (p : Bid → Bool) (found : Bool) (bs : List Bid) (k : ℕ) → length bs ≤ k → (found || any p (drop k bs)) ≡ found
-unfolding any
-any-end p found bs k h = rw (drop-of-length-le bs h) (or-false found)
-
 -- the loop over a gap: before the first zero place the rest may have one, after it no place may be filled
 abbrev pub gapAfter : Bool → List Bid → Bool
 gapAfter ended bs = cond ended (any filled bs) (gap bs)

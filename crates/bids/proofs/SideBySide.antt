@@ -1,10 +1,10 @@
--- Rates and amounts side by side: how many bids they are, the bid at an index, and their total. Assumes nothing.
+-- Rates and amounts side by side: how many bids they are, the bid at an index, their parts, a bid stored, and their total. Assumes nothing.
 use mathlib.Core.Path.{_≡_, refl, sym, ap, _∙_}
 use mathlib.Core.List.{List, [], _∷_, List·Memᴰ, List·Memᴰ·head, List·Memᴰ·tail}
 use Prim.Native.Nat.{ℕ, zero, suc, _+_, _<_}
 use native.Mathlib.Numerals.{add-one}
 use native.Mathlib.Omega.{arith}
-use lib.ListN.{length, drop, getD}
+use lib.ListN.{length, take, drop, getD, set}
 use lib.Seq.{drop-cons}
 use Rattle.rules.specs.Allotment.{Bid, noBid, total, sum}
 use Rattle.bids.specs.Columns.{bidsOf}
@@ -42,6 +42,31 @@ drop-bids rates amounts i e h =
     drop-cons bs i noBid (omega (arith, length-of rates amounts e))
     ∙ ap (λ (b : Bid). b ∷ drop (suc i) bs) (bid-of rates amounts i e)
     ∙ ap (λ (n : ℕ). bidIn rates amounts i ∷ drop n bs) (sym (add-one i))
+
+-- parts of both are a part of the bids
+pub take-of : (n : ℕ) (rates amounts : List ℕ) → bidsOf (take n rates) (take n amounts) ≡ take n (bidsOf rates amounts)
+unfolding bidsOf
+take-of zero rates amounts = refl
+take-of (suc n) [] amounts = refl
+take-of (suc n) (r ∷ rates) [] = refl
+take-of (suc n) (r ∷ rates) (a ∷ amounts) = ap (λ (l : List Bid). record { rate = r; amount = a } ∷ l) (take-of n rates amounts)
+
+pub drop-of : (n : ℕ) (rates amounts : List ℕ) → length rates ≡ length amounts → bidsOf (drop n rates) (drop n amounts) ≡ drop n (bidsOf rates amounts)
+unfolding bidsOf
+drop-of zero rates amounts h = refl
+drop-of (suc n) [] amounts h = refl
+drop-of (suc n) (r ∷ rates) [] h = absurd (omega arith)
+drop-of (suc n) (r ∷ rates) (a ∷ amounts) h = drop-of n rates amounts (omega arith)
+
+-- a rate and an amount stored at one index are a bid stored there
+pub set-of : (rates amounts : List ℕ) (i r a : ℕ) → length rates ≡ length amounts
+    → bidsOf (set rates i r) (set amounts i a) ≡ set (bidsOf rates amounts) i (record { rate = r; amount = a })
+unfolding bidsOf
+set-of [] [] i r a h = refl
+set-of [] (x ∷ amounts) i r a h = absurd (omega arith)
+set-of (y ∷ rates) [] i r a h = absurd (omega arith)
+set-of (y ∷ rates) (x ∷ amounts) zero r a h = refl
+set-of (y ∷ rates) (x ∷ amounts) (suc i) r a h = ap (λ (l : List Bid). record { rate = y; amount = x } ∷ l) (set-of rates amounts i r a (omega arith))
 
 pub total-of : (rates amounts : List ℕ) → length rates ≡ length amounts → total (bidsOf rates amounts) ≡ sum amounts
 unfolding bidsOf total sum

@@ -81,7 +81,7 @@ bids-high rs vs xs ws i p (suc d) h k =
 
 -- the arrays with a time at index k, and other rates and amounts
 abbrev pub timed : Book → ℕ → ℕ → List Rate → List Amount → Book
-timed b k t rs xs = record { codes = b .codes; n = b .n; held = set (b .held) k t; has = set (b .has) k true; rates = rs; amounts = xs }
+timed b k t rs xs = record { codes = b .codes; n = b .n; limits = b .limits; held = set (b .held) k t; has = set (b .has) k true; rates = rs; amounts = xs }
 
 -- the arrays with a time and ten places stored at index k
 abbrev pub stored : Book → ℕ → ℕ → List Rate → List Amount → Book

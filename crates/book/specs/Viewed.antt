@@ -1,10 +1,10 @@
 -- The arrays of a book as the entries of document 01, and what finding a code and holding a message mean for them. Assumes nothing.
 use mathlib.Core.Bool.{Bool, true, false, cond}
-use mathlib.Core.List.{List, [], _∷_, map}
+use mathlib.Core.List.{List, [], _∷_, _++_, map}
 use mathlib.Core.Option.{Option, none, some}
-use Prim.Native.Nat.{ℕ, zero, suc, _*_}
+use Prim.Native.Nat.{ℕ, zero, suc, _*_, _-_}
 use lib.Dec.{eqb, ltb}
-use lib.ListN.{getD}
+use lib.ListN.{length, getD, replicate, take}
 use Rattle.rules.specs.Allotment.{Bid}
 use Rattle.rules.specs.Opening.{Admission, admitting, any}
 use Rattle.places.specs.declared.Rate.{Rate}
@@ -75,9 +75,17 @@ unfoldable pub codesIn : List Entry → List ℕ
 codesIn [] = []
 codesIn (e ∷ es) = e .code ∷ codesIn es
 
+-- the limits of its codes
+abbrev pub limitsIn : Book → List ℕ
+limitsIn b = take (upTo64 (b .n)) (b .limits)
+
 -- whom a book admits
 abbrev pub admissionOf : Book → Admission
-admissionOf b = admitting (codesIn (viewed b))
+admissionOf b = admitting (codesIn (viewed b)) (limitsIn b)
+
+-- the first 64 of a list, and zeros where it has fewer
+unfoldable pub first64 : List ℕ → List ℕ
+first64 xs = take 64 xs ++ replicate (64 - length xs) 0
 
 -- what the entry at an index holds; past the last entry there is none
 unfoldable pub heldIn : List Entry → ℕ → Option ℕ

@@ -9,7 +9,7 @@ ghost use Prim.Native.Nat.{_*_, _<_};
 ghost use lib.ListN.{length};
 ghost use Rattle.bids.specs.Columns.{bidsFrom};
 ghost use Rattle.book.specs.declared.Book.{Book};
-ghost use Rattle.book.specs.Viewed.{viewed, findFrom, indexOf, takenAt, replaced};
+ghost use Rattle.book.specs.Viewed.{viewed, limitsIn, findFrom, indexOf, takenAt, replaced};
 
 // A code as a number of 64 bits.
 fn wide(c: u32) -> u64
@@ -49,7 +49,7 @@ pub fn takes_at<'a>(held: &'a [u64], has: &'a [bool], found: Found, time: u64) -
 // The book that holds this time and these ten places at an index.
 pub fn hold(b: Book, at: usize, time: u64, rates: [Rate; 10], amounts: [Amount; 10]) -> Book
     requires { ⌜ at < 64 ⌝ }
-    ensures { λ r. ⌜ viewed r ≡ replaced (viewed b) at time (bidsFrom rates amounts 0 10) ⌝ }
+    ensures { λ r. ⌜ (viewed r ≡ replaced (viewed b) at time (bidsFrom rates amounts 0 10)) × (limitsIn r ≡ limitsIn b) ⌝ }
 {
     let mut held = b.held;
     held[at] = time;
@@ -65,9 +65,11 @@ pub fn hold(b: Book, at: usize, time: u64, rates: [Rate; 10], amounts: [Amount; 
         i += 1;
     }
     let codes = b.codes;
+    let limits = b.limits;
     Book {
         codes,
         n: b.n,
+        limits,
         held,
         has,
         rates: rs,

@@ -6,17 +6,18 @@ use places::Amount;
 use places::Rate;
 ghost use mathlib.Core.Path.{_≡_};
 ghost use mathlib.Core.List.{map};
-ghost use lib.ListN.{take};
+ghost use lib.ListN.{length, take};
 ghost use Rattle.rules.specs.Receiving.{newBook};
 ghost use Rattle.bids.specs.Columns.{cents};
-ghost use Rattle.book.specs.Viewed.{hundredThousandths, amountOf, upTo64, viewed, findFrom, isAt, indexOf};
+ghost use Rattle.book.specs.Viewed.{hundredThousandths, amountOf, upTo64, first64, viewed, limitsIn, findFrom, isAt, indexOf};
 
-// For each code the time last accepted, whether there is one, and ten places from ten times its index on.
+// For each code the time last accepted, whether there is one, its credit limit, and ten places from ten times its index on.
 pub struct Book {
     pub codes: [u32; 64],
     pub n: usize,
     pub held: [u64; 64],
     pub has: [bool; 64],
+    pub limits: [u64; 64],
     pub rates: [Rate; 640],
     pub amounts: [Amount; 640],
 }
@@ -54,9 +55,23 @@ pub fn up_to_64(n: usize) -> usize
     if n < 64 { n } else { 64 }
 }
 
-// The book of a newly opened tender, with the first 64 codes and nothing held.
-pub fn new_book(codes: &[u32]) -> Book
-    ensures { λ r. ⌜ viewed r ≡ newBook (take 64 (now (codes .entry))) ⌝ }
+// The first 64 limits, and zeros where there are fewer.
+fn first_64(limits: &[u64]) -> [u64; 64]
+    ensures { λ r. ⌜ r ≡ first64 (now (limits .entry)) ⌝ }
+{
+    let n = up_to_64(limits.len());
+    let mut kept = [0u64; 64];
+    let mut i = 0;
+    while i < n {
+        kept[i] = limits[i];
+        i += 1;
+    }
+    kept
+}
+
+// The book of a newly opened tender, with the first 64 codes and limits and nothing held.
+pub fn new_book(codes: &[u32], limits: &[u64]) -> Book
+    ensures { λ r. ⌜ (viewed r ≡ newBook (take 64 (now (codes .entry)))) × (limitsIn r ≡ take (upTo64 (length (now (codes .entry)))) (first64 (now (limits .entry)))) ⌝ }
 {
     let n = up_to_64(codes.len());
     let mut kept = [0u32; 64];
@@ -65,9 +80,11 @@ pub fn new_book(codes: &[u32]) -> Book
         kept[i] = codes[i];
         i += 1;
     }
+    let caps = first_64(limits);
     Book {
         codes: kept,
         n,
+        limits: caps,
         held: [0u64; 64],
         has: [false; 64],
         rates: [Rate(0); 640],

@@ -9,13 +9,13 @@ use lib.Dec.{leb}
 use lib.ListN.{length}
 use Rattle.envelope.specs.Refusals.{firstHolding, unlessRefused, orZero}
 use Rattle.rules.specs.Allotment.{sum}
-use Rattle.rules.specs.Opening.{Admission, notAnnouncement, otherOrigin, malformedAnnouncement, unknownType, impossibleNumbers, datesDisordered, badCodes, openingRefused}
+use Rattle.rules.specs.Opening.{Admission, notAnnouncement, otherOrigin, malformedAnnouncement, unknownType, impossibleNumbers, datesDisordered, badCodes, limitsMiscounted, limitTooLong, openingRefused}
 use Rattle.rules.specs.Receiving.{Reception}
 use Rattle.rules.specs.Calls as rules
 use Rattle.rules.specs.ArrivalOrder.{receiveAll, afterReceptions, afterClosing}
 use Rattle.rules.proofs.ArrivalOrder.{arrival-order}
 use Rattle.numbers.specs.Numbers.{inArray}
-use Rattle.buffer.specs.Words.{tenderIn, isTender}
+use Rattle.buffer.specs.Words.{tenderWords, tenderIn, isTender}
 use Rattle.optes_book.specs.Interface.{marginalNumbers, Opens}
 use Rattle.optes_book.proofs.Calls.{told-all}
 use Rattle.book_order.specs.ArrivalOrder.{ReceivesAll, no-more, and-next, Run, finalAllotment, ArrivalOrderFromC}
@@ -44,6 +44,8 @@ opening-accepted m a e =
     ∷ (5, impossibleNumbers m)
     ∷ (6, datesDisordered m)
     ∷ (7, badCodes (a .codes))
+    ∷ (19, limitsMiscounted a)
+    ∷ (20, limitTooLong (a .limits))
     ∷ [])
     refl e
 
@@ -60,11 +62,11 @@ module _ (ws m : List ℕ) (a : Admission) (first : List ℕ) (opens : Opens ws 
   room-then true e = refl
   room-then false e = absurd (omega (arith, e))
 
-  zero-is : 0 ≡ answer (leb 1496 (length ws))
-  zero-is = ap (λ (p : ℕ × List ℕ). p .0) (opens .equal) ∙ opened-number (leb 1496 (length ws)) _
+  zero-is : 0 ≡ answer (leb tenderWords (length ws))
+  zero-is = ap (λ (p : ℕ × List ℕ). p .0) (opens .equal) ∙ opened-number (leb tenderWords (length ws)) _
 
-  roomy : leb 1496 (length ws) ≡ true
-  roomy = room-then (leb 1496 (length ws)) zero-is
+  roomy : leb tenderWords (length ws) ≡ true
+  roomy = room-then (leb tenderWords (length ws)) zero-is
 
   accepted : openingRefused m a ≡ none
   accepted = opening-accepted m a (sym (zero-is ∙ ap answer roomy))
@@ -82,7 +84,7 @@ module _ (m : List ℕ) (a : Admission) (rs : List Reception) (date time closed 
   not-refused : openingRefused m a ≡ none
   not-refused = accepted (run .ws) m a (run .first) (run .opens)
 
-  room : leb 1496 (length (run .ws)) ≡ true
+  room : leb tenderWords (length (run .ws)) ≡ true
   room = roomy (run .ws) m a (run .first) (run .opens)
 
   received : (isTender (run .last) ≡ true) × (tenderIn (run .last) ≡ afterReceptions m a rs)

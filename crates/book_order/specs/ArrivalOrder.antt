@@ -37,7 +37,7 @@ pub record Run (m : List ℕ) (a : Admission) (rs : List Reception) (date time :
 abbrev pub finalAllotment : List ℕ → Admission → List Reception → rules.Allotted
 finalAllotment m a rs = rules.allotment (termsOf m a) (finalBook (termsOf m a) rs)
 
--- for any two runs of the calls over rearranged receptions
+-- for every announcement, admitted list and limits, and any two runs of the calls over rearranged receptions
 abbrev pub ArrivalOrderFromC : Type 0
 ArrivalOrderFromC =
     (m : List ℕ) (a : Admission) (rs rearranged : List Reception) (date time date₂ time₂ : ℕ)
@@ -58,5 +58,5 @@ ArrivalOrderFromC =
     × (shown ≡ inArray (marginalNumbers (finalAllotment m a rs .marginal)) told)
     × (given₂ ≡ inArray (finalAllotment m a rs .awards) awards₂)
     × (shown₂ ≡ inArray (marginalNumbers (finalAllotment m a rs .marginal)) told₂)
-    -- the awards add up
-    × (sum (finalAllotment m a rs .awards) ≡ min (termsOf m a .offered) (totalIn (offerOf (termsOf m a)) (finalBook (termsOf m a) rs)))
+    -- 'The awards add up to the smaller of the amount offered and all final bids within the limit rate', as cut to the limits
+    × (sum (finalAllotment m a rs .awards) ≡ min (termsOf m a .offered) (totalIn (offerOf (termsOf m a)) (rules.bidsTaken (termsOf m a) (finalBook (termsOf m a) rs))))

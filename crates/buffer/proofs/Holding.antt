@@ -11,17 +11,17 @@ use Rattle.places.specs.declared.Rate.{Rate}
 use Rattle.places.specs.declared.Amount.{Amount}
 use Rattle.rules.specs.Opening.{admitting}
 use Rattle.bids.specs.Columns.{cents, bidsFrom}
-use Rattle.book.specs.Viewed.{hundredThousandths, amountOf, viewed, codesIn, replaced}
+use Rattle.book.specs.Viewed.{hundredThousandths, amountOf, viewed, codesIn, limitsIn, replaced}
 use Rattle.book.proofs.Joining.{replaced-codes}
 use Rattle.book.proofs.Order.{there-and-back}
 use Rattle.book.proofs.Storing.{stored, viewed-stored, getD-sets-low}
 use Rattle.terms.specs.Viewed as terms
 use Rattle.refusals.specs.Conditions.{stateOf}
-use Rattle.buffer.specs.Words.{part, storedRate, stateIn, bookIn, tenderIn, isTender, holding}
+use Rattle.buffer.specs.Words.{tenderWords, part, storedRate, stateIn, bookIn, tenderIn, isTender, holding}
 use Rattle.buffer.proofs.Parts.{set-before, set-past, set-in, sets-before, sets-past, sets-in, map-set, map-sets}
 use Rattle.buffer.proofs.Words.{Known, sized, termsFrom, terms-from, still-tender}
 
-module _ (ws : List ℕ) (long : 1496 ≤ length ws) (at time : ℕ) (rates : List Rate) (amounts : List Amount) (below : at < 64) (ten : length rates ≡ 10) (tens : length amounts ≡ 10) where
+module _ (ws : List ℕ) (long : tenderWords ≤ length ws) (at time : ℕ) (rates : List Rate) (amounts : List Amount) (below : at < 64) (ten : length rates ≡ 10) (tens : length amounts ≡ 10) where
   abbrev timed-words : List ℕ
   timed-words = set (set ws (88 + at) time) (152 + at) 1
 
@@ -87,6 +87,14 @@ module _ (ws : List ℕ) (long : 1496 ≤ length ws) (at time : ℕ) (rates : Li
       ∙ ap (λ (l : List ℕ). sets l (10 * at) xs)
       (sets-before timed-words 856 640 (216 + 10 * at) rs (omega (arith, ten-rs)) ∙ set-before (set ws (88 + at) time) 856 640 (152 + at) 1 (omega arith) ∙ set-before ws 856 640 (88 + at) time (omega arith))
 
+  limits-stay : part 1496 64 (holding ws at time rates amounts) ≡ part 1496 64 ws
+  unfolding holding
+  limits-stay =
+      sets-before rated 1496 64 (856 + 10 * at) xs (omega (arith, ten-xs))
+      ∙ sets-before timed-words 1496 64 (216 + 10 * at) rs (omega (arith, ten-rs))
+      ∙ set-before (set ws (88 + at) time) 1496 64 (152 + at) 1 (omega arith)
+      ∙ set-before ws 1496 64 (88 + at) time (omega arith)
+
   pub holding-length : length (holding ws at time rates amounts) ≡ length ws
   unfolding holding
   holding-length = length-sets rated (856 + 10 * at) xs ∙ length-sets timed-words (216 + 10 * at) rs ∙ length-set (set ws (88 + at) time) (152 + at) 1 ∙ length-set ws (88 + at) time
@@ -106,6 +114,7 @@ module _ (ws : List ℕ) (long : 1496 ≤ length ws) (at time : ℕ) (rates : Li
         λ t. record {
           codes = first-stays 24 64 (omega arith) t;
           n = word-stays 2 (omega arith) t;
+          limits = limits-stay t;
           held = times-are t;
           has = flags t;
           rates = rs-are t;
@@ -121,4 +130,4 @@ module _ (ws : List ℕ) (long : 1496 ≤ length ws) (at time : ℕ) (rates : Li
         let next = holding ws at time rates amounts in
         let t = terms-from next ∙ ap termsFrom (first-stays 3 21 (omega arith)) ∙ sym (terms-from ws) in
         let codes = ap codesIn entries-held ∙ replaced-codes (viewed (bookIn ws)) at time (bidsFrom rates amounts 0 10) in
-        λ i. record { terms = terms.viewed (t i) (admitting (codes i)); state = stateOf (stateIn (word-stays 1 (omega arith) i)); book = entries-held i }
+        λ i. record { terms = terms.viewed (t i) (admitting (codes i) (limitsIn (book-held i))); state = stateOf (stateIn (word-stays 1 (omega arith) i)); book = entries-held i }

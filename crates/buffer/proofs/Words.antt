@@ -20,13 +20,13 @@ use Rattle.book.proofs.Storing.{Sized, stored}
 use Rattle.terms.specs.declared.Terms.{Terms}
 use Rattle.refusals.specs.Conditions.{stateOf}
 use Rattle.outcomes.specs.Outcomes.{viewedOf}
-use Rattle.buffer.specs.Words.{part, byteIn, storedRate, stateIn, sideIn, termsIn, bookIn, tenderIn, isTender}
+use Rattle.buffer.specs.Words.{tenderWords, formNumber, part, byteIn, storedRate, stateIn, sideIn, termsIn, bookIn, tenderIn, isTender}
 use Rattle.buffer.proofs.Parts.{part-length, word-at, set-before}
 
 -- what isTender says
 pub record Known (ws : List ℕ) : Type 0 where
-  pub long : 1496 ≤ length ws
-  pub form : getD ws 0 0 ≡ 1
+  pub long : tenderWords ≤ length ws
+  pub form : getD ws 0 0 ≡ formNumber
   pub in-state : getD ws 1 0 < 4
   pub some-codes : 0 < getD ws 2 0
   pub few-codes : getD ws 2 0 < 65
@@ -35,8 +35,8 @@ pub record Known (ws : List ℕ) : Type 0 where
 pub known : (ws : List ℕ) → isTender ws ≡ true → Known ws
 unfolding isTender
 known ws h =
-    let a = leb 1496 (length ws) in
-    let b = eqb (getD ws 0 0) 1 in
+    let a = leb tenderWords (length ws) in
+    let b = eqb (getD ws 0 0) formNumber in
     let c = ltb (getD ws 1 0) 4 in
     let d = ltb 0 (getD ws 2 0) in
     let e = ltb (getD ws 2 0) 65 in
@@ -46,8 +46,8 @@ known ws h =
     let h₃ = and-left (a && b && c) d h₂ in
     let h₄ = and-left (a && b) c h₃ in
     record {
-      long = leb-true 1496 (length ws) (and-left a b h₄);
-      form = eqb-true (getD ws 0 0) 1 (and-right a b h₄);
+      long = leb-true tenderWords (length ws) (and-left a b h₄);
+      form = eqb-true (getD ws 0 0) formNumber (and-right a b h₄);
       in-state = ltb-true (getD ws 1 0) 4 (and-right (a && b) c h₃);
       some-codes = ltb-true 0 (getD ws 2 0) (and-right (a && b && c) d h₂);
       few-codes = ltb-true (getD ws 2 0) 65 (and-right (a && b && c && d) e h₁);
@@ -65,14 +65,14 @@ pub codes-rise : (ws : List ℕ) → Known ws → rising (codesIn (viewed (bookI
 codes-rise ws k = ap rising (codes-are ws k) ∙ k .rises
 
 -- what is held at an index
-pub held-at : (ws : List ℕ) (i : ℕ) → 1496 ≤ length ws → i < 64 → heldAt (bookIn ws) i ≡ cond (ltb 0 (getD ws (152 + i) 0)) (some (getD ws (88 + i) 0)) none
+pub held-at : (ws : List ℕ) (i : ℕ) → tenderWords ≤ length ws → i < 64 → heldAt (bookIn ws) i ≡ cond (ltb 0 (getD ws (152 + i) 0)) (some (getD ws (88 + i) 0)) none
 unfolding heldAt bookIn
 held-at ws i h k =
     let n = part-length ws 152 64 (omega arith) in
     ap₂ (λ (b : Bool) (t : ℕ). cond b (some t) none) (sym (mapped-at (ltb 0) (part 152 64 ws) i 0 false (omega (arith, n, k))) ∙ ap (ltb 0) (word-at ws 152 64 i k)) (word-at ws 88 64 i k)
 
 -- the arrays of the book have their lengths
-pub sized : (ws : List ℕ) → 1496 ≤ length ws → Sized (bookIn ws)
+pub sized : (ws : List ℕ) → tenderWords ≤ length ws → Sized (bookIn ws)
 unfolding bookIn
 sized ws h =
     record {
@@ -124,8 +124,8 @@ pub still-tender : (ws next : List ℕ) → Known ws → length ws ≡ length ne
 unfolding isTender
 still-tender ws next k long form in-state count codes =
     rw (
-      le-leb 1496 (length next) (omega (arith, k .long, long)),
-      eq-eqb (getD next 0 0) 1 (form ∙ k .form),
+      le-leb tenderWords (length next) (omega (arith, k .long, long)),
+      eq-eqb (getD next 0 0) formNumber (form ∙ k .form),
       lt-ltb (getD next 1 0) 4 in-state,
       lt-ltb 0 (getD next 2 0) (omega (arith, count, k .some-codes)),
       lt-ltb (getD next 2 0) 65 (omega (arith, count, k .few-codes)),
@@ -139,6 +139,7 @@ module _ (ws : List ℕ) (k : Known ws) (w : ℕ) where
   in-state-book = λ t. record {
     codes = set-before ws 24 64 1 w (omega arith) t;
     n = getD-set-other ws 1 2 w 0 (λ e. omega (arith, e)) t;
+    limits = set-before ws 1496 64 1 w (omega arith) t;
     held = set-before ws 88 64 1 w (omega arith) t;
     has = map (ltb 0) (set-before ws 152 64 1 w (omega arith) t);
     rates = map storedRate (set-before ws 216 640 1 w (omega arith) t);

@@ -19,6 +19,13 @@ use Rattle.refusals.specs.declared.State.{State}
 use Rattle.refusals.specs.declared.State.the-variants as state
 use Rattle.outcomes.specs.Outcomes.{viewedOf}
 
+-- the words of a tender, and the number of their form: it rises when they gain a part
+abbrev pub tenderWords : ℕ
+tenderWords = 1560
+
+abbrev pub formNumber : ℕ
+formNumber = 2
+
 -- n words from an index on
 abbrev pub part : ℕ → ℕ → List ℕ → List ℕ
 part at n ws = take n (drop at ws)
@@ -58,12 +65,13 @@ termsIn ws =
       limit = storedRate (getD ws 23 0);
     }
 
--- word 2, how many codes, and from word 24 on for each of 64 codes: the code; the time held; whether one is held; ten rates; ten amounts
+-- word 2, how many codes, and from word 24 on for each of 64 codes: the code; the time held; whether one is held; ten rates; ten amounts; the limit
 unfoldable pub bookIn : List ℕ → Book
 bookIn ws =
     record {
       codes = part 24 64 ws;
       n = getD ws 2 0;
+      limits = part 1496 64 ws;
       held = part 88 64 ws;
       has = map (ltb 0) (part 152 64 ws);
       rates = map storedRate (part 216 640 ws);
@@ -74,11 +82,11 @@ bookIn ws =
 abbrev pub tenderIn : List ℕ → rules.Tender
 tenderIn ws = viewedOf (stateIn (getD ws 1 0)) (termsIn ws) (bookIn ws)
 
--- words that hold a tender: enough of them, the number 1 of this form, a state, 1 to 64 codes, and codes that rise
+-- words that hold a tender: enough of them, the number of this form, a state, 1 to 64 codes, and codes that rise
 unfoldable pub isTender : List ℕ → Bool
 isTender ws =
-    leb 1496 (length ws)
-    && eqb (getD ws 0 0) 1
+    leb tenderWords (length ws)
+    && eqb (getD ws 0 0) formNumber
     && ltb (getD ws 1 0) 4
     && ltb 0 (getD ws 2 0)
     && ltb (getD ws 2 0) 65

@@ -8,7 +8,7 @@ ghost use mathlib.Core.Path.{_≡_};
 ghost use mathlib.Core.List.{map};
 ghost use Prim.Native.Nat.{_≤_};
 ghost use lib.ListN.{length};
-ghost use Rattle.buffer.specs.Words.{byteIn, sideIn, termsIn};
+ghost use Rattle.buffer.specs.Words.{tenderWords, byteIn, sideIn, termsIn};
 
 // The side of a number.
 fn side_of(w: u64) -> Side
@@ -36,7 +36,7 @@ fn identifier_in(words: &[u64]) -> [u8; 11]
 
 // The terms of the tender.
 pub fn terms_in(words: &[u64]) -> Terms
-    requires { ⌜ 1496 ≤ length (now words) ⌝ }
+    requires { ⌜ tenderWords ≤ length (now words) ⌝ }
     ensures { λ r. ⌜ r ≡ termsIn (now (words .entry)) ⌝ }
 {
     Terms {

@@ -11,10 +11,10 @@ use Rattle.output.specs.Output.{Wrote}
 use Rattle.output.proofs.Output.{from-start}
 use Rattle.envelope.specs.Refusals.{unlessRefused}
 use Rattle.rules.specs.Opening as rules
-use Rattle.rules.specs.Opening.{Admission, admitting, notAnnouncement, otherOrigin, malformedAnnouncement, unknownType, impossibleNumbers, datesDisordered, badCodes, openingRefused, termsOf, noTerms}
+use Rattle.rules.specs.Opening.{Admission, admitting, nobody, notAnnouncement, otherOrigin, malformedAnnouncement, unknownType, impossibleNumbers, datesDisordered, badCodes, openingRefused, termsOf, noTerms}
 use Rattle.rules.specs.Receiving.{newBook}
 use Rattle.rules.specs.Calls.{Open, noTender, openTender}
-use Rattle.rules.proofs.Opening.{next-condition, few-codes, rising-codes}
+use Rattle.rules.proofs.Opening.{next-condition, few-codes, rising-codes, as-many-limits}
 use Rattle.terms.specs.declared.Terms as declared
 use Rattle.terms.specs.declared.OpenAnswer.{OpenAnswer}
 use Rattle.terms.specs.Viewed as terms
@@ -22,14 +22,14 @@ use Rattle.terms.specs.Viewed.{openRefusal, isOpened, admittedUnless, openingTe
 use Rattle.terms.proofs.Forming.{opened-none, refused-some}
 use Rattle.book.specs.Viewed.{codesIn}
 use Rattle.book.proofs.Joining.{new-codes}
-use Rattle.buffer.specs.Words.{stateIn, tenderIn, isTender}
+use Rattle.buffer.specs.Words.{tenderWords, stateIn, tenderIn, isTender}
 use Rattle.buffer_opening.specs.Opening.{Narrow, held, openedNumbers, OpensIn}
-use Rattle.buffer_opening.proofs.Opened.{identifier-long, terms-read, entries-read, is-tender}
+use Rattle.buffer_opening.proofs.Opened.{identifier-long, terms-read, entries-read, limits-read, is-tender}
 
 -- an accepted opening has a code
-some-code : (m : List ℕ) (codes : List ℕ) → openingRefused m (admitting codes) ≡ none → 0 < length codes
+some-code : (m codes limits : List ℕ) → openingRefused m (admitting codes limits) ≡ none → 0 < length codes
 unfolding openingRefused badCodes
-some-code m [] h =
+some-code m [] limits h =
     let c1 = next-condition 1 (notAnnouncement m) _ h in
     let c2 = next-condition 2 (otherOrigin m) _ (c1 .1) in
     let c3 = next-condition 3 (malformedAnnouncement m) _ (c2 .1) in
@@ -37,12 +37,12 @@ some-code m [] h =
     let c5 = next-condition 5 (impossibleNumbers m) _ (c4 .1) in
     let c6 = next-condition 6 (datesDisordered m) _ (c5 .1) in
     absurd (false≢true (sym (next-condition 7 true _ (c6 .1) .0)))
-some-code m (c ∷ codes) h = omega arith
+some-code m (c ∷ codes) limits h = omega arith
 
-module _ (m codes : List ℕ) (a : OpenAnswer) (t : declared.Terms)
-    (e : _≡_ {A = Option ℕ × rules.Terms} (openRefusal a, terms.viewed t (admittedUnless m (admitting codes))) (openingTerms m (admitting codes))) where
-  abbrev admission : Admission
-  admission = admitting codes
+module _ (m : List ℕ) (admission : Admission) (a : OpenAnswer) (t : declared.Terms)
+    (e : _≡_ {A = Option ℕ × rules.Terms} (openRefusal a, terms.viewed t (admittedUnless m admission)) (openingTerms m admission)) where
+  abbrev codes : List ℕ
+  codes = admission .codes
 
   number : openRefusal a ≡ openingRefused m admission
   unfolding openingTerms
@@ -56,7 +56,7 @@ module _ (m codes : List ℕ) (a : OpenAnswer) (t : declared.Terms)
       let never : openingRefused m admission ≡ none → ⊥ = λ x. absurd (let z : _≡_ {A = Option ℕ} (some n) none = sym holds ∙ x in let y : _≡_ {A = ℕ} 0 1 = cc in omega arith) in
       record {
         number = number;
-        words = sym (ap (λ (o : Option ℕ). unlessRefused o ws (openedNumbers (held (termsOf m admission)) codes ++ drop 1496 ws)) holds);
+        words = sym (ap (λ (o : Option ℕ). unlessRefused o ws (openedNumbers (held (termsOf m admission)) admission ++ drop tenderWords ws)) holds);
         past = refl;
         tender = λ x. absurd (never x);
         given = λ x. absurd (never x);
@@ -66,7 +66,7 @@ module _ (m codes : List ℕ) (a : OpenAnswer) (t : declared.Terms)
     pub none-holds : openingRefused m admission ≡ none
     none-holds = sym number ∙ opened-none a h
 
-    terms-are : terms.viewed t (unlessRefused (openingRefused m admission) (admitting []) admission) ≡ unlessRefused (openingRefused m admission) noTerms (termsOf m admission)
+    terms-are : terms.viewed t (unlessRefused (openingRefused m admission) nobody admission) ≡ unlessRefused (openingRefused m admission) noTerms (termsOf m admission)
     unfolding openingTerms admittedUnless
     terms-are = ap (λ (p : Option ℕ × rules.Terms). p .1) e
 
@@ -76,34 +76,41 @@ module _ (m codes : List ℕ) (a : OpenAnswer) (t : declared.Terms)
     pub few : length codes ≤ 64
     few = few-codes m admission none-holds
 
-    module _ (ws after : List ℕ) (end : ℕ) (narrow : Narrow t) (w : Wrote ws 0 (openedNumbers t codes) after end) (at-end : end ≡ 1496) where
-      opened-1496 : length (openedNumbers t codes) ≡ 1496
-      opened-1496 = omega (arith, w .past, at-end)
+    counted : length (admission .limits) ≡ length codes
+    counted = as-many-limits m admission none-holds
+
+    pub few-limits : length (admission .limits) ≤ 64
+    few-limits = omega (arith, few, counted)
+
+    module _ (ws after : List ℕ) (end : ℕ) (narrow : Narrow t) (w : Wrote ws 0 (openedNumbers t admission) after end) (at-end : end ≡ tenderWords) where
+      opened-long-enough : length (openedNumbers t admission) ≡ tenderWords
+      opened-long-enough = omega (arith, w .past, at-end)
 
       long : length (t .identifier) ≡ 11
-      long = identifier-long t codes few opened-1496
+      long = identifier-long t admission few few-limits opened-long-enough
 
-      after-is : after ≡ openedNumbers t codes ++ drop 1496 ws
-      after-is = w .bytes ∙ from-start ws (openedNumbers t codes) ∙ ap (λ (n : ℕ). openedNumbers t codes ++ drop n ws) opened-1496
+      after-is : after ≡ openedNumbers t admission ++ drop tenderWords ws
+      after-is = w .bytes ∙ from-start ws (openedNumbers t admission) ∙ ap (λ (n : ℕ). openedNumbers t admission ++ drop n ws) opened-long-enough
 
-      tender-is : tenderIn (openedNumbers t codes ++ drop 1496 ws) ≡ record { terms = termsOf m admission; state = Open; book = newBook codes }
+      tender-is : tenderIn (openedNumbers t admission ++ drop tenderWords ws) ≡ record { terms = termsOf m admission; state = Open; book = newBook codes }
       unfolding openedNumbers stateIn
       tender-is =
-          let rest = drop 1496 ws in
-          let terms-same = terms-read t narrow long codes rest few in
-          let entries = entries-read t narrow long codes rest few in
+          let rest = drop tenderWords ws in
+          let terms-same = terms-read t narrow long admission rest few counted in
+          let entries = entries-read t narrow long admission rest few counted in
           let admitted = ap codesIn entries ∙ new-codes codes in
-          λ i. record { terms = (ap₂ (λ (x : declared.Terms) (cs : List ℕ). terms.viewed x (admitting cs)) terms-same admitted ∙ terms-open) i; state = Open; book = entries i }
+          let capped = limits-read t narrow long admission rest few counted in
+          λ i. record { terms = ((λ j. terms.viewed (terms-same j) (admitting (admitted j) (capped j))) ∙ terms-open) i; state = Open; book = entries i }
 
       pub opens : OpensIn ws m admission a after
       unfolding openTender
       opens =
-          let rest = drop 1496 ws in
+          let rest = drop tenderWords ws in
           let same : t ≡ held (termsOf m admission) = ap held terms-open in
           record {
             number = number;
-            words = after-is ∙ ap (λ (x : declared.Terms). openedNumbers x codes ++ rest) same ∙ sym (ap (λ (o : Option ℕ). unlessRefused o ws (openedNumbers (held (termsOf m admission)) codes ++ rest)) none-holds);
-            past = ap (drop 1496) after-is ∙ drop-at (openedNumbers t codes) rest 1496 opened-1496;
+            words = after-is ∙ ap (λ (x : declared.Terms). openedNumbers x admission ++ rest) same ∙ sym (ap (λ (o : Option ℕ). unlessRefused o ws (openedNumbers (held (termsOf m admission)) admission ++ rest)) none-holds);
+            past = ap (drop tenderWords) after-is ∙ drop-at (openedNumbers t admission) rest tenderWords opened-long-enough;
             tender = λ _. ap tenderIn after-is ∙ tender-is ∙ sym (ap (λ (o : Option ℕ). unlessRefused o noTender (record { terms = termsOf m admission; state = Open; book = newBook codes })) none-holds);
-            given = λ _. ap isTender after-is ∙ is-tender t narrow long codes rest few (some-code m codes none-holds) (rising-codes m admission none-holds);
+            given = λ _. ap isTender after-is ∙ is-tender t narrow long admission rest few counted (some-code m codes (admission .limits) none-holds) (rising-codes m admission none-holds);
           }

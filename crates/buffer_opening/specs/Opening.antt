@@ -13,7 +13,7 @@ use Rattle.terms.specs.declared.Terms.{Terms}
 use Rattle.terms.specs.declared.OpenAnswer.{OpenAnswer}
 use Rattle.terms.specs.Viewed.{openRefusal}
 use Rattle.book.specs.Viewed.{rateOf, amountOf}
-use Rattle.buffer.specs.Words.{byteIn, low32, tenderIn, isTender, termsNumbers}
+use Rattle.buffer.specs.Words.{tenderWords, formNumber, byteIn, low32, tenderIn, isTender, termsNumbers}
 
 -- terms that are read back from words as they were written
 pub record Narrow (t : Terms) : Type 0 where
@@ -37,18 +37,23 @@ held t =
       limit = rateOf (t .limit);
     }
 
--- the 1496 words of a newly opened tender: its form, the state open, how many codes, terms, codes, and zeros, for it holds nothing
-unfoldable pub openedNumbers : Terms → List ℕ → List ℕ
-openedNumbers t codes = (1 ∷ 0 ∷ length codes ∷ []) ++ termsNumbers t ++ codes ++ replicate (1472 - length codes) 0
+-- the words of a newly opened tender: its form, the state open, how many codes, terms, codes, zeros, for it holds nothing, and the limits
+unfoldable pub openedNumbers : Terms → Admission → List ℕ
+openedNumbers t a =
+    (formNumber ∷ 0 ∷ length (a .codes) ∷ [])
+    ++ termsNumbers t
+    ++ a .codes
+    ++ replicate (1472 - length (a .codes)) 0
+    ++ (a .limits ++ replicate (64 - length (a .limits)) 0)
 
 -- opening in words ws: the answer r, and the words after it
 pub record OpensIn (ws m : List ℕ) (a : Admission) (r : OpenAnswer) (after : List ℕ) : Type 0 where
   -- document 01's number of the refusal, or none
   pub number : openRefusal r ≡ openingRefused m a
   -- every word: those that came in where opening is refused, else the numbers of the new tender and the words past them
-  pub words : after ≡ unlessRefused (openingRefused m a) ws (openedNumbers (held (termsOf m a)) (a .codes) ++ drop 1496 ws)
+  pub words : after ≡ unlessRefused (openingRefused m a) ws (openedNumbers (held (termsOf m a)) a ++ drop tenderWords ws)
   -- the words past the tender stay
-  pub past : drop 1496 after ≡ drop 1496 ws
+  pub past : drop tenderWords after ≡ drop tenderWords ws
   -- not refused, the words are the tender of the rules, and may be handed to the next call
   pub tender : openingRefused m a ≡ none → tenderIn after ≡ rules.openTender m a .1
   pub given : openingRefused m a ≡ none → isTender after ≡ true

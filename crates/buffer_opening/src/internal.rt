@@ -9,12 +9,12 @@ use terms::Terms;
 use terms::is_opened;
 use terms::open;
 ghost use mathlib.Core.Path.{_≡_};
-ghost use mathlib.Core.List.{map};
-ghost use Prim.Native.Nat.{_+_, _≤_};
+ghost use mathlib.Core.List.{_++_, map};
+ghost use Prim.Native.Nat.{_+_, _-_, _≤_};
 ghost use lib.ListN.{length, replicate};
 ghost use Rattle.output.specs.Output.{Wrote};
 ghost use Rattle.rules.specs.Opening.{admitting};
-ghost use Rattle.buffer.specs.Words.{byteIn, low32, sideNumber, termsNumbers};
+ghost use Rattle.buffer.specs.Words.{tenderWords, byteIn, low32, sideNumber, termsNumbers};
 ghost use Rattle.buffer_opening.specs.Opening.{Narrow, openedNumbers, OpensIn};
 
 // A byte as a number of 64 bits.
@@ -110,28 +110,52 @@ pub fn put_terms(words: &mut [u64], at: usize, terms: Terms) -> usize
     put_three(words, limits_at, maximum.0, allocation.0, wide_rate(limit))
 }
 
-// Writes the words of a newly opened tender.
-fn put_tender(words: &mut [u64], terms: Terms, codes: &[u32]) -> usize
-    requires { ⌜ (1496 ≤ length (now words)) × (length (now codes) ≤ 64) ⌝ }
-    ensures { λ r. ⌜ Wrote (now (words .entry)) 0 (openedNumbers terms (now (codes .entry))) (now (words .exit)) r × (r ≡ 1496) × Narrow terms ⌝ }
+// Writes words.
+pub fn put_words(numbers: &mut [u64], at: usize, words: &[u64]) -> usize
+    requires { ⌜ at + length (now words) ≤ length (now numbers) ⌝ }
+    ensures { λ r. ⌜ Wrote (now (numbers .entry)) at (now (words .entry)) (now (numbers .exit)) r ⌝ }
 {
-    let terms_at = put_three(words, 0, 1, 0, codes.len() as u64);
+    let mut end = at;
+    let mut k = 0;
+    while k < words.len() {
+        end = put(numbers, end, words[k]);
+        k += 1;
+    }
+    end
+}
+
+// Writes limits, and zeros up to 64 of them.
+fn put_limits(words: &mut [u64], at: usize, limits: &[u64]) -> usize
+    requires { ⌜ (at + 64 ≤ length (now words)) × (length (now limits) ≤ 64) ⌝ }
+    ensures { λ r. ⌜ Wrote (now (words .entry)) at (now (limits .entry) ++ replicate (64 - length (now (limits .entry))) 0) (now (words .exit)) r × (r ≡ at + 64) ⌝ }
+{
+    let free_at = put_words(words, at, limits);
+    put_zeros(words, free_at, 64 - limits.len())
+}
+
+// Writes the words of a newly opened tender.
+fn put_tender(words: &mut [u64], terms: Terms, codes: &[u32], limits: &[u64]) -> usize
+    requires { ⌜ (tenderWords ≤ length (now words)) × (length (now codes) ≤ 64) × (length (now limits) ≤ 64) ⌝ }
+    ensures { λ r. ⌜ Wrote (now (words .entry)) 0 (openedNumbers terms (admitting (now (codes .entry)) (now (limits .entry)))) (now (words .exit)) r × (r ≡ tenderWords) × Narrow terms ⌝ }
+{
+    let terms_at = put_three(words, 0, 2, 0, codes.len() as u64);
     let codes_at = put_terms(words, terms_at, terms);
     let free_at = put_codes(words, codes_at, codes);
-    put_zeros(words, free_at, 1472 - codes.len())
+    let limits_at = put_zeros(words, free_at, 1472 - codes.len());
+    put_limits(words, limits_at, limits)
 }
 
 // Opens a tender in a buffer: its words, or why it is refused and the words as they were.
-pub fn open_in(words: &mut [u64], m: &[u8], codes: &[u32]) -> OpenAnswer
-    requires { ⌜ 1496 ≤ length (now words) ⌝ }
-    ensures { λ r. ⌜ OpensIn (now (words .entry)) (now (m .entry)) (admitting (now (codes .entry))) r (now (words .exit)) ⌝ }
+pub fn open_in(words: &mut [u64], m: &[u8], codes: &[u32], limits: &[u64]) -> OpenAnswer
+    requires { ⌜ tenderWords ≤ length (now words) ⌝ }
+    ensures { λ r. ⌜ OpensIn (now (words .entry)) (now (m .entry)) (admitting (now (codes .entry)) (now (limits .entry))) r (now (words .exit)) ⌝ }
 {
-    let opening = open(m, codes);
+    let opening = open(m, codes, limits);
     let answer = opening.answer;
     if !is_opened(answer) {
         return answer;
     }
     let terms = opening.terms;
-    put_tender(words, terms, codes);
+    put_tender(words, terms, codes, limits);
     answer
 }

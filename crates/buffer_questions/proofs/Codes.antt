@@ -1,4 +1,4 @@
--- Laws of the codes of a tender: that they rise, and what is told of them. Assumes nothing.
+-- Laws of the codes of a tender and their limits: that the codes rise, and what is told of both. Assumes nothing.
 use mathlib.Core.Path.{_≡_, refl, sym, ap, _∙_}
 use mathlib.Core.Bool.{Bool, true, false, _&&_, and-assoc, and-true, false≢true}
 use mathlib.Core.List.{List, [], _∷_, _++_}
@@ -12,11 +12,12 @@ use Rattle.laws.proofs.Tests.{and-left, and-right, same-test}
 use Rattle.output.specs.Output.{Wrote}
 use Rattle.output.proofs.Output.{from-start}
 use Rattle.rules.specs.Opening.{rising}
-use Rattle.book.specs.Viewed.{viewed, codesIn}
-use Rattle.buffer.specs.Words.{bookIn}
-use Rattle.buffer.proofs.Words.{Known, codes-are}
-use Rattle.buffer_opening.proofs.Opened.{zeros, zeros-left}
-use Rattle.buffer_questions.specs.Told.{codesNumbers}
+use Rattle.book.specs.Viewed.{limitsIn}
+use Rattle.book.proofs.Empty.{upTo64-stays, zeros-after}
+use Rattle.buffer.specs.Words.{tenderWords, part, bookIn}
+use Rattle.buffer.proofs.Words.{Known}
+use Rattle.buffer_opening.proofs.Opened.{zeros}
+use Rattle.buffer_questions.specs.Told.{countedNumbers}
 
 rise-suc : (l : List ℕ) (k : ℕ) → suc k < length l → rising (take (suc k) l) && ltb (getD l k 0) (getD l (suc k) 0) ≡ rising (take (suc (suc k)) l)
 unfolding rising
@@ -68,18 +69,24 @@ unfolding rising
 rise-one [] = refl
 rise-one (a ∷ l) = refl
 
--- an array of 65 zeros in which the number of codes and the codes are written
-pub codes-told : (ws : List ℕ) {after : List ℕ} {end : ℕ} → Known ws → Wrote (zeros 65) 0 ((getD ws 2 0 ∷ []) ++ take (24 + getD ws 2 0 - 24) (drop 24 ws)) after end → after ≡ codesNumbers (codesIn (viewed (bookIn ws)))
-unfolding codesNumbers
-codes-told ws k w =
+-- an array of 65 zeros in which the number of codes and a word for each of them are written
+pub column-told : (ws : List ℕ) (from : ℕ) {after : List ℕ} {end : ℕ} → Known ws → from + 64 ≤ tenderWords → Wrote (zeros 65) 0 ((getD ws 2 0 ∷ []) ++ take (from + getD ws 2 0 - from) (drop from ws)) after end
+    → after ≡ countedNumbers (take (getD ws 2 0) (part from 64 ws))
+unfolding countedNumbers
+column-told ws from k room w =
     let n = getD ws 2 0 in
     let few : n ≤ 64 = omega (arith, k .few-codes) in
-    let e : 24 + n - 24 ≡ n = omega arith in
-    let codes = take (24 + n - 24) (drop 24 ws) in
-    let first : codes ≡ codesIn (viewed (bookIn ws)) = ap (λ (j : ℕ). take j (drop 24 ws)) e ∙ sym (take-take n 64 (drop 24 ws) few) ∙ sym (codes-are ws k) in
-    let long : length codes ≡ n = length-take-le (24 + n - 24) (drop 24 ws) (omega (arith, length-drop 24 ws, k .long, few)) ∙ e in
+    let e : from + n - from ≡ n = omega arith in
+    let column = take (from + n - from) (drop from ws) in
+    let first : column ≡ take n (part from 64 ws) = ap (λ (j : ℕ). take j (drop from ws)) e ∙ sym (take-take n 64 (drop from ws) few) in
+    let long : length column ≡ n = length-take-le (from + n - from) (drop from ws) (omega (arith, length-drop from ws, k .long, few, room)) ∙ e in
     w .bytes
-    ∙ from-start (zeros 65) ((n ∷ []) ++ codes)
-    ∙ ap (λ (j : ℕ). j ∷ (codes ++ drop (length codes) (zeros 64))) (sym long)
-    ∙ ap (λ (l : List ℕ). length codes ∷ (codes ++ l)) (zeros-left (length codes) 64 (omega (arith, long, few)))
-    ∙ ap codesNumbers first
+    ∙ from-start (zeros 65) ((n ∷ []) ++ column)
+    ∙ ap (λ (j : ℕ). j ∷ (column ++ drop (length column) (zeros 64))) (sym long)
+    ∙ ap (λ (l : List ℕ). length column ∷ (column ++ l)) (zeros-after (length column) 64 (omega (arith, long, few)))
+    ∙ ap countedNumbers first
+
+-- the limits of the tender are the first of their part
+pub limits-are : (ws : List ℕ) → Known ws → limitsIn (bookIn ws) ≡ take (getD ws 2 0) (part 1496 64 ws)
+unfolding bookIn
+limits-are ws k = ap (λ (n : ℕ). take n (part 1496 64 ws)) (upTo64-stays (getD ws 2 0) (omega (arith, k .few-codes)))

@@ -21,7 +21,7 @@ use Rattle.book.specs.declared.Found.{Found}
 use Rattle.book.specs.declared.Found.the-variants.{At, Absent}
 use Rattle.book.specs.Viewed.{amountOf, entryAt, entriesFrom, upTo64, viewed, findFrom, isAt, indexOf}
 use Rattle.book.proofs.Mapped.{mapped-at}
-use Rattle.buffer.specs.Words.{part, low32, storedRate, bookIn}
+use Rattle.buffer.specs.Words.{tenderWords, part, low32, storedRate, bookIn}
 use Rattle.buffer.proofs.Parts.{part-length, word-at}
 use Rattle.buffer.proofs.Words.{held-at}
 use Rattle.buffer_questions.specs.Told.{entryOf, timeNumbers, heldNumbers}
@@ -68,7 +68,7 @@ rate-more l k w h i e v u =
     let more : take k l ++ (getD l k 0 ∷ []) ≡ take (k + 1) l = rw add-one (sym (take-suc l k 0 i)) in
     said (ap (λ (x : ℕ). map low32 (take k l) ++ (x ∷ [])) e ∙ sym (map-append low32 (take k l) (getD l k 0 ∷ [])) ∙ ap (map low32) more) (then h v u)
 
-module _ (ws : List ℕ) (long : 1496 ≤ length ws) where
+module _ (ws : List ℕ) (long : tenderWords ≤ length ws) where
   abbrev rates : List Rate
   rates = map storedRate (part 216 640 ws)
 

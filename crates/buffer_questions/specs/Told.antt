@@ -8,9 +8,9 @@ use lib.ListN.{length, replicate}
 use Rattle.rules.specs.Allotment.{Bid}
 use Rattle.rules.specs.Receiving.{Entry}
 
--- how many codes are admitted, the codes, and zeros up to 64 codes: 65 numbers
-unfoldable pub codesNumbers : List ℕ → List ℕ
-codesNumbers codes = length codes ∷ (codes ++ replicate (64 - length codes) 0)
+-- how many numbers, one for each admitted code, the numbers, and zeros up to 64 of them: 65 numbers
+unfoldable pub countedNumbers : List ℕ → List ℕ
+countedNumbers ns = length ns ∷ (ns ++ replicate (64 - length ns) 0)
 
 -- the entry of a code
 unfoldable pub entryOf : List Entry → ℕ → Option Entry

@@ -35,7 +35,7 @@ fn codes_rise(codes: &[u64], n: usize) -> bool
 pub fn is_tender(words: &[u64]) -> bool
     ensures { λ r. ⌜ r ≡ isTender (now (words .entry)) ⌝ }
 {
-    if words.len() < 1496 {
+    if words.len() < 1560 {
         return false;
     }
     let n = words[2];
@@ -45,5 +45,5 @@ pub fn is_tender(words: &[u64]) -> bool
     if 64 < n {
         return false;
     }
-    (words[0] == 1) & (words[1] < 4) & codes_rise(&words[24..88], n as usize)
+    (words[0] == 2) & (words[1] < 4) & codes_rise(&words[24..88], n as usize)
 }

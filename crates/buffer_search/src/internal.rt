@@ -6,7 +6,7 @@ ghost use Prim.Native.Nat.{_≤_, _<_};
 ghost use lib.ListN.{length};
 ghost use Rattle.rules.specs.Opening.{rising};
 ghost use Rattle.book.specs.Viewed.{viewed, findFrom, indexOf, takenAt};
-ghost use Rattle.buffer.specs.Words.{bookIn, isTender};
+ghost use Rattle.buffer.specs.Words.{tenderWords, bookIn, isTender};
 ghost use Rattle.buffer_search.specs.Search.{findIn, isBelow, AllBelow, AsManyBelow};
 
 // Whether a code stands at an index and is below this one.
@@ -70,7 +70,7 @@ pub fn find(words: &[u64], code: u64) -> Found
 
 // Whether the code found holds nothing, or a time before this one.
 pub fn takes(words: &[u64], found: Found, time: u64) -> bool
-    requires { ⌜ (1496 ≤ length (now words)) × (indexOf found < 64) ⌝ }
+    requires { ⌜ (tenderWords ≤ length (now words)) × (indexOf found < 64) ⌝ }
     ensures { λ r. ⌜ r ≡ takenAt (bookIn (now (words .entry))) found time ⌝ }
 {
     match found {

@@ -14,7 +14,7 @@ use Rattle.envelope.specs.declared.application.Field.the-variants.{MessageType,
 use Rattle.envelope.specs.declared.application.Fields.{Fields}
 use Rattle.envelope.specs.Application.{bytesOf}
 use Rattle.rules.specs.Opening as rules
-use Rattle.rules.specs.Opening.{Admission, admitting, isTime, any}
+use Rattle.rules.specs.Opening.{Admission, nobody, isTime, any}
 use Rattle.rules.specs.Receiving.{Reception, Error, when, senderErrors, dateErrors, bidErrors, errors}
 use Rattle.bids.specs.Columns.{bidsFrom}
 use Rattle.errors.specs.declared.Errors.{Errors}
@@ -24,7 +24,7 @@ use Rattle.terms.specs.Viewed.{viewed}
 
 -- '6G6-901 a place malformed; if none is: 902 ..'; which codes are admitted is not asked
 unfoldable pub columnErrors : Terms → Places → List Error
-columnErrors t p = cond (allFormed (p .formed)) (bidErrors (viewed t (admitting [])) (bidsFrom (p .rates) (p .amounts) 0 10)) ((ascii "6G6", 901) ∷ [])
+columnErrors t p = cond (allFormed (p .formed)) (bidErrors (viewed t nobody) (bidsFrom (p .rates) (p .amounts) 0 10)) ((ascii "6G6", 901) ∷ [])
 
 -- '001-900 .. 6G0-303'
 unfoldable pub headErrors : rules.Terms → List ℕ → Fields → List Error

@@ -36,7 +36,7 @@ ghost use Rattle.addresses.specs.Addresses.{codeIn};
 ghost use Rattle.places.specs.Bids.{allFormed};
 ghost use Rattle.envelope.specs.declared.application.Field.the-variants.{MessageType, Recipient, Identifier};
 ghost use Rattle.envelope.specs.Application.{layout6G1, bytesOf, fieldsOf};
-ghost use Rattle.rules.specs.Opening.{admitting, any};
+ghost use Rattle.rules.specs.Opening.{nobody, any};
 ghost use Rattle.rules.specs.Receiving.{senderErrors, dateErrors, bidErrors};
 ghost use Rattle.bids.specs.Columns.{bidsFrom};
 ghost use Rattle.errors.specs.Listed.{listed};
@@ -93,7 +93,7 @@ pub fn date_errors(e: Errors, execution: u64, date: Digits) -> Errors
 // The errors of ten well-formed places, 902 to 907.
 pub fn bid_errors(e: Errors, t: Terms, rates: [Rate; 10], amounts: [Amount; 10]) -> Errors
     requires { ⌜ e .n ≤ 10 ⌝ }
-    ensures { λ r. ⌜ (listed r ≡ listed e ++ bidErrors (viewed t (admitting [])) (bidsFrom rates amounts 0 10)) × (r .n ≤ e .n + 6) ⌝ }
+    ensures { λ r. ⌜ (listed r ≡ listed e ++ bidErrors (viewed t nobody) (bidsFrom rates amounts 0 10)) × (r .n ≤ e .n + 6) ⌝ }
 {
     let gap = with(e, has_gap(rates, amounts), 902);
     let many = with(gap, t.most < count(rates, amounts), 903);

@@ -7,7 +7,7 @@ use Prim.Native.Nat.{ℕ, _/_, _%_}
 use lib.Dec.{eqb, ltb}
 use lib.ListN.{length}
 use Rattle.digits.specs.Decimal.{allDigits}
-use Rattle.rules.specs.Opening.{admitting}
+use Rattle.rules.specs.Opening.{uncapped}
 use Rattle.rules.specs.Calls.{Tender, openTender}
 use Rattle.log.specs.Steps.{Log, Step, ending, onTender, admittedIn, admissionStep, openedStep, announcementStep, received, receptionStep, closed, closingStep, revoked, revocationStep, allotted, allottingStep, step}
 use Rattle.session_fields.specs.Codes.{codesFrom}
@@ -38,11 +38,11 @@ module _ (l : Log) where
 
   module _ (e : l .ended ≡ false) where
     called : (call : Tender → Tender × List ℕ) (there : Option Tender)
-        → Ends l false (elim there [ none ↦ (l, []) | some t ↦ (record { ended = false; admission = l .admission; tender = some (call t .0) }, call t .1) ])
+        → Ends l false (elim there [ none ↦ (l, []) | some t ↦ (record { ended = false; codes = l .codes; tender = some (call t .0) }, call t .1) ])
     called call none = e
     called call (some t) = refl
 
-    admits : (codesIn : Option (List ℕ)) → Ends l (isNone codesIn) (elim codesIn [ none ↦ ending l | some codes ↦ (record { ended = false; admission = admitting codes; tender = l .tender }, []) ])
+    admits : (codesIn : Option (List ℕ)) → Ends l (isNone codesIn) (elim codesIn [ none ↦ ending l | some codes ↦ (record { ended = false; codes = codes; tender = l .tender }, []) ])
     admits none = refl
     admits (some codes) = refl
 
@@ -57,7 +57,7 @@ module _ (l : Log) where
 
       ends-A1 : Ends l false (announcementStep l s)
       unfolding announcementStep
-      ends-A1 = opens (openTender s (l .admission))
+      ends-A1 = opens (openTender s (uncapped (l .codes)))
 
       ends-A2 : Ends l (ltb (length s) 14) (receptionStep l s)
       unfolding receptionStep

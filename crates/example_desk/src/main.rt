@@ -14,7 +14,8 @@ fn open(announcement: &[u8]) -> Tender
     ensures { λ r. ⌜ Given r ⌝ }
 {
     let codes = [90001u32, 90002, 90003];
-    let opened = tender::open(announcement, &codes);
+    let limits = [0u64; 3]; // One for each code; with zero nobody is capped.
+    let opened = tender::open(announcement, &codes, &limits);
     let answer = opened.answer;
     printing::text(b"open");
     lines::answer(number_of_answer(answer));

@@ -32,7 +32,7 @@ ghost use lib.Seq.{sets};
 ghost use Rattle.rules.specs.Calls.{close, revoke};
 ghost use Rattle.bids.specs.Columns.{cents};
 ghost use Rattle.book.specs.Viewed.{hundredThousandths};
-ghost use Rattle.buffer.specs.Words.{part, low32, storedRate, tenderIn, isTender};
+ghost use Rattle.buffer.specs.Words.{tenderWords, part, low32, storedRate, tenderIn, isTender};
 ghost use Rattle.in_place.specs.InPlace.{ComesIn, LeavesIn, ReceivesIn, ChangesIn, AllotsIn};
 
 // What a reception tells: why it is refused, else the errors with which the message is returned, and the length of the reply.
@@ -165,7 +165,7 @@ pub fn revoke_in(words: &mut [u64]) -> Refusal
 
 // The rates of the first places.
 fn rates_in(words: &[u64], end: usize) -> [u32; 640]
-    requires { ⌜ (1496 ≤ length (now words)) × (end ≤ 640) ⌝ }
+    requires { ⌜ (tenderWords ≤ length (now words)) × (end ≤ 640) ⌝ }
     ensures { λ r. ⌜ take end r ≡ take end (map low32 (part 216 640 (now (words .entry)))) ⌝ }
 {
     let mut rates = [0u32; 640];
@@ -182,13 +182,15 @@ pub fn allot_in(words: &mut [u64], awards: &mut [u64]) -> AllotAnswer
     requires { ⌜ (isTender (now words) ≡ true) × (now awards ≡ replicate 640 0) ⌝ }
     ensures { λ r. ⌜ AllotsIn (now (words .entry)) r (now (words .exit)) (now (awards .exit)) ⌝ }
 {
-    let end = 10 * up_to_64(words[2] as usize);
+    let n = up_to_64(words[2] as usize);
+    let end = 10 * n;
     let rates = rates_in(words, end);
     let terms = terms_in(words);
     let state = state_of(words[1]);
     let answer = allot_bids(
         state,
         terms,
+        &words[1496..1496 + n],
         &rates[0..end],
         &words[856..856 + end],
         &mut awards[0..end],

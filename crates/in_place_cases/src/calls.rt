@@ -17,13 +17,13 @@ ghost use Prim.Native.Nat.{_≤_};
 // The number of a refusal, and the words after the call.
 pub struct After {
     pub number: u64,
-    pub words: [u64; 1496],
+    pub words: [u64; 1560],
 }
 
 // Opens a tender.
-pub fn open(before: [u64; 1496], a: [u8; 225], codes: &[u32]) -> After {
+pub fn open(before: [u64; 1560], a: [u8; 225], codes: &[u32], limits: &[u64]) -> After {
     let mut words = before;
-    let answer = open_in(&mut words, &a, codes);
+    let answer = open_in(&mut words, &a, codes, limits);
     After {
         number: number_of_answer(answer),
         words,
@@ -31,7 +31,7 @@ pub fn open(before: [u64; 1496], a: [u8; 225], codes: &[u32]) -> After {
 }
 
 // Closes a tender.
-pub fn close(before: [u64; 1496], date: u64, time: u64) -> After {
+pub fn close(before: [u64; 1560], date: u64, time: u64) -> After {
     let mut words = before;
     if !is_tender(&words) {
         return After { number: 99, words };
@@ -44,7 +44,7 @@ pub fn close(before: [u64; 1496], date: u64, time: u64) -> After {
 }
 
 // Revokes a tender.
-pub fn revoke(before: [u64; 1496]) -> After {
+pub fn revoke(before: [u64; 1560]) -> After {
     let mut words = before;
     if !is_tender(&words) {
         return After { number: 99, words };
@@ -59,13 +59,13 @@ pub fn revoke(before: [u64; 1496]) -> After {
 // What allotting gives too.
 pub struct Awarded {
     pub number: u64,
-    pub words: [u64; 1496],
+    pub words: [u64; 1560],
     pub awards: [u64; 640],
     pub marginal: MarginalRate,
 }
 
 // Allots a tender.
-pub fn allot(before: [u64; 1496]) -> Awarded {
+pub fn allot(before: [u64; 1560]) -> Awarded {
     let mut words = before;
     let mut awards = [0u64; 640];
     if !is_tender(&words) {
@@ -123,11 +123,11 @@ pub fn up_to_438(n: usize) -> usize
 pub struct Replied {
     pub told: Told,
     pub space: [u8; 438],
-    pub words: [u64; 1496],
+    pub words: [u64; 1560],
 }
 
 // Receives a message. For words that hold no tender the reply has the length 99, which none has.
-pub fn receive(before: [u64; 1496], m: &[u8], at: Reception) -> Replied {
+pub fn receive(before: [u64; 1560], m: &[u8], at: Reception) -> Replied {
     let mut words = before;
     let room = up_to_438(at.room);
     let mut space = [238u8; 438];

@@ -63,7 +63,7 @@ fn same_words(a: &[u64], b: &[u64]) -> bool {
 }
 
 // Whether all words are the same.
-pub fn all_same(a: [u64; 1496], b: [u64; 1496]) -> bool {
+pub fn all_same(a: [u64; 1560], b: [u64; 1560]) -> bool {
     same_words(&a, &b)
 }
 
@@ -79,7 +79,7 @@ fn state_number(s: State) -> u64 {
 
 // Whether the words from 3 on are the terms.
 fn same_terms(terms: Terms, words: &[u64]) -> bool
-    requires { ⌜ 1496 ≤ length (now words) ⌝ }
+    requires { ⌜ 1560 ≤ length (now words) ⌝ }
 {
     let mut numbers = [0u64; 21];
     put_terms(&mut numbers, 0, terms);
@@ -93,7 +93,7 @@ fn flag(has: bool) -> u64 {
 
 // Whether the words from 24, 88 and 152 on are the codes, the times held and whether they are held.
 fn same_codes(b: Book, words: &[u64]) -> bool
-    requires { ⌜ 1496 ≤ length (now words) ⌝ }
+    requires { ⌜ 1560 ≤ length (now words) ⌝ }
 {
     let codes = b.codes;
     let held = b.held;
@@ -117,7 +117,7 @@ fn rate_number(rate: Rate) -> u64 {
 
 // Whether the words from 216 and 856 on are the rates and the amounts.
 fn same_places(b: Book, words: &[u64]) -> bool
-    requires { ⌜ 1496 ≤ length (now words) ⌝ }
+    requires { ⌜ 1560 ≤ length (now words) ⌝ }
 {
     let rates = b.rates;
     let amounts = b.amounts;
@@ -130,17 +130,26 @@ fn same_places(b: Book, words: &[u64]) -> bool
     same
 }
 
+// Whether the words from 1496 on are the limits.
+fn same_limits(b: Book, words: &[u64]) -> bool
+    requires { ⌜ 1560 ≤ length (now words) ⌝ }
+{
+    let limits = b.limits;
+    same_words(&limits, &words[1496..1560])
+}
+
 // Whether the words are a tender's.
-pub fn same_tender(t: Tender, words: [u64; 1496]) -> bool {
+pub fn same_tender(t: Tender, words: [u64; 1560]) -> bool {
     let state = t.state();
     let terms = t.terms();
     let book = t.book();
-    (words[0] == 1)
+    (words[0] == 2)
         & (words[1] == state_number(state))
         & (words[2] == book.n as u64)
         & same_terms(terms, &words)
         & same_codes(book, &words)
         & same_places(book, &words)
+        & same_limits(book, &words)
 }
 
 // Whether two reply spaces are the same.

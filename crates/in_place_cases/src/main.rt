@@ -15,4 +15,6 @@ fn main() {
     sessions::run(b"vwxaCA");
     // Tenders revoked open and closed.
     sessions::run(b"aVasnCAVOaCVanCAV");
+    // Credit limits in LP with calls refused, for one code alone and in LA; then openings refused for their limits.
+    sessions::run(b"KbnmkqsADBCaAACVKmCAMjCAKmVFGWYZ");
 }

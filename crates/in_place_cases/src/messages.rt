@@ -116,3 +116,9 @@ pub fn at_limit() -> [u8; 348] {
     let bids = b"00100000/00000000005000000000000/000000000020000";
     application(b"90001", b"102900", bids)
 }
+
+// Two bids at one rate, of which the first is over the limit of the capped openings.
+pub fn over_limit() -> [u8; 348] {
+    let bids = b"00120000/00000000006000000120000/000000000040000";
+    application(b"90001", b"103200", bids)
+}

@@ -10,6 +10,7 @@ use crate::messages::in_and_out;
 use crate::messages::more_errors;
 use crate::messages::of_branch;
 use crate::messages::of_other_branch;
+use crate::messages::over_limit;
 use crate::messages::six_errors;
 use crate::messages::with;
 use crate::steps::Both;
@@ -18,34 +19,68 @@ use crate::steps::close;
 use crate::steps::open;
 use crate::steps::receive;
 use crate::steps::revoke;
+ghost use Prim.Native.Nat.{_≤_};
 ghost use Rattle.tender.specs.Viewed.{Given};
 
 // The announcement of an opening.
 fn announced(k: u8) -> [u8; 225] {
     match k {
         b'L' => announcing(80, b"A"),
+        b'M' => announcing(80, b"A"),
         b'X' => announcing(0, b"!"),
         _ => announcing(0, b""),
     }
 }
 
-// Opens a tender: L for LA, X with a wrong tag, E for equal codes, N for no code.
+// The limits of an opening: F, G, K, M and Z cap 90001 and 90003, and one of W and of Y has sixteen digits.
+fn limits(k: u8) -> [u64; 4] {
+    let capped = [40000u64, 0, 999999999999999, 0];
+    let long = [0u64, 0, 1000000000000000, 0];
+    match k {
+        b'F' => capped,
+        b'G' => capped,
+        b'K' => capped,
+        b'M' => capped,
+        b'W' => long,
+        b'Y' => long,
+        b'Z' => capped,
+        _ => [0u64; 4],
+    }
+}
+
+// How many limits an opening has: N none, F and Z too few, G and Y too many.
+fn count(k: u8) -> usize
+    ensures { λ r. ⌜ r ≤ 4 ⌝ }
+{
+    match k {
+        b'F' => 2,
+        b'G' => 4,
+        b'N' => 0,
+        b'Y' => 4,
+        b'Z' => 2,
+        _ => 3,
+    }
+}
+
+// Opens a tender: L and M for LA, X with a wrong tag, E and Z for equal codes, N for no code.
 fn opening(k: u8) -> Both
     ensures { λ r. ⌜ Given (r .tender) ⌝ }
 {
     let a = announced(k);
     let codes = [90001u32, 90002, 90003];
     let equal = [90001u32, 90002, 90002];
-    if k == b'E' {
-        return open(a, &equal);
+    let limits = limits(k);
+    let n = count(k);
+    if (k == b'E') | (k == b'Z') {
+        return open(a, &equal, &limits[0..n]);
     }
     if k == b'N' {
-        return open(a, &codes[0..0]);
+        return open(a, &codes[0..0], &limits[0..n]);
     }
-    open(a, &codes)
+    open(a, &codes, &limits[0..n])
 }
 
-// The message of a reception: b, c and d are the others of document 01's session, k cancels, v to x come from branches.
+// The message of a reception: b, c and d are the others of document 01's session, k cancels, m is over a limit, v to x come from branches.
 fn message(k: u8) -> [u8; 348] {
     match k {
         b'b' => application(b"90001", b"103100", b"00120000/000000000050000"),
@@ -57,6 +92,8 @@ fn message(k: u8) -> [u8; 348] {
         b'i' => in_and_out(),
         b'j' => at_limit(),
         b'k' => application(b"90003", b"103500", b"00000000/000000000000000"),
+        b'm' => over_limit(),
+        b'q' => application(b"90003", b"103600", b"00120000/000000000100000"),
         b't' => with(first(), 6, b"!"),
         b'u' => with(first(), 50, b"103000"),
         b'v' => of_branch(),

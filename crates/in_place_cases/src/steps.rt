@@ -17,7 +17,7 @@ ghost use Rattle.tender.specs.Viewed.{Given};
 // A tender, and the words that hold the same one.
 pub struct Both {
     pub tender: Tender,
-    pub words: [u64; 1496],
+    pub words: [u64; 1560],
 }
 
 // The end of a line.
@@ -41,18 +41,29 @@ fn line(number: u64, same: bool) {
     end(same);
 }
 
+// The limits of an opening.
+fn limited(limits: &[u64]) {
+    printing::text(b" limits");
+    let mut i = 0;
+    while i < limits.len() {
+        printing::number(limits[i]);
+        i += 1;
+    }
+}
+
 // Opens a tender; words in which it is refused stay.
-pub fn open(a: [u8; 225], codes: &[u32]) -> Both
+pub fn open(a: [u8; 225], codes: &[u32], limits: &[u64]) -> Both
     ensures { λ r. ⌜ Given (r .tender) ⌝ }
 {
     printing::text(b"opening ");
     printing::text(&a[73..91]);
     printing::number(codes.len() as u64);
-    let o = tender::open(&a, codes);
+    limited(limits);
+    let o = tender::open(&a, codes, limits);
     let answer = o.answer;
     let number = number_of_answer(answer);
-    let before = [7u64; 1496];
-    let after = calls::open(before, a, codes);
+    let before = [7u64; 1560];
+    let after = calls::open(before, a, codes, limits);
     let words = after.words;
     let tender = o.tender;
     if number == 0 {
@@ -193,6 +204,17 @@ pub fn revoke(b: Both) -> Both
     Both { tender, words }
 }
 
+// The eurocents of all awards.
+fn total(awards: [u64; 640]) -> u64 {
+    let mut sum: u64 = 0;
+    let mut i = 0;
+    while i < 640 {
+        sum = std::num::wrapping_add_u64(sum, awards[i]);
+        i += 1;
+    }
+    sum
+}
+
 // Allots a tender.
 pub fn allot(b: Both) -> Both
     requires { ⌜ Given (b .tender) ⌝ }
@@ -211,6 +233,8 @@ pub fn allot(b: Both) -> Both
     let rate = after.marginal;
     let awarded = after.awards;
     let words = after.words;
+    printing::text(b" total");
+    printing::number(total(awarded));
     let same = same_awards(awards, awarded)
         & same_rate(marginal, rate)
         & same_tender(tender, words);

@@ -8,7 +8,7 @@ use native.Mathlib.Omega.{arith}
 use lib.Dec.{eqb, ltb}
 use lib.ListN.{length, take}
 use lib.Seq.{take-take}
-use Rattle.rules.specs.Opening.{admitting}
+use Rattle.rules.specs.Opening.{uncapped}
 use Rattle.rules.specs.Calls.{Tender, openTender}
 use Rattle.log.specs.Steps.{Log, Step, ending, onTender, admittedIn, admissionStep, openedStep, announcementStep, received, receptionStep, closed, closingStep, revoked, revocationStep, allotted, allottingStep, step, tagOf, contentOf, afterField, holdsField, walked, logFrom}
 use Rattle.log.proofs.Codes.{first-65-tell}
@@ -25,18 +25,18 @@ either false x y x₂ y₂ p q = q
 
 -- keeping twice is keeping once
 module _ (l : Log) where
-  codes-twice : take 65 (take 65 (l .admission .codes)) ≡ take 65 (l .admission .codes)
-  codes-twice = take-take 65 65 (l .admission .codes) (omega arith)
+  codes-twice : take 65 (take 65 (l .codes)) ≡ take 65 (l .codes)
+  codes-twice = take-take 65 65 (l .codes) (omega arith)
 
   kept-twice : kept (kept l) ≡ kept l
-  kept-twice = λ i. record { ended = l .ended; admission = admitting (codes-twice i); tender = l .tender }
+  kept-twice = λ i. record { ended = l .ended; codes = (codes-twice i); tender = l .tender }
 
   ends : Alike (ending (kept l)) (ending l)
-  ends = ((λ i. record { ended = true; admission = admitting (codes-twice i); tender = l .tender }), refl)
+  ends = ((λ i. record { ended = true; codes = (codes-twice i); tender = l .tender }), refl)
 
 -- the step of an A0 by the codes that it admits
 abbrev admissionBy : Log → Option (List ℕ) → Step
-admissionBy l codesIn = elim codesIn [ none ↦ ending l | some codes ↦ (record { ended = false; admission = admitting codes; tender = l .tender }, []) ]
+admissionBy l codesIn = elim codesIn [ none ↦ ending l | some codes ↦ (record { ended = false; codes = codes; tender = l .tender }, []) ]
 
 admits : (l : Log) (codesIn : Option (List ℕ)) → Alike (admissionBy (kept l) codesIn) (admissionBy l codesIn)
 admits l none = ends l
@@ -44,16 +44,16 @@ admits l (some codes) = (refl, refl)
 
 -- the step of an A1 by what opening gives
 opens : (l : Log) (p : Option ℕ × Tender) → Alike (openedStep (kept l) p) (openedStep l p)
-opens l (none, t) = ((λ i. record { ended = false; admission = admitting (codes-twice l i); tender = some t }), refl)
+opens l (none, t) = ((λ i. record { ended = false; codes = (codes-twice l i); tender = some t }), refl)
 opens l (some n, t) = (kept-twice l, refl)
 
 -- a call by the tender that there is
 abbrev calling : Log → (Tender → Tender × List ℕ) → Option Tender → Step
-calling l call there = elim there [ none ↦ (l, []) | some t ↦ (record { ended = false; admission = l .admission; tender = some (call t .0) }, call t .1) ]
+calling l call there = elim there [ none ↦ (l, []) | some t ↦ (record { ended = false; codes = l .codes; tender = some (call t .0) }, call t .1) ]
 
 calls : (l : Log) (call : Tender → Tender × List ℕ) (there : Option Tender) → Alike (calling (kept l) call there) (calling l call there)
 calls l call none = (kept-twice l, refl)
-calls l call (some t) = ((λ i. record { ended = false; admission = admitting (codes-twice l i); tender = some (call t .0) }), refl)
+calls l call (some t) = ((λ i. record { ended = false; codes = (codes-twice l i); tender = some (call t .0) }), refl)
 
 -- the steps of the tags, A0 to A5, and of any field
 module _ (l : Log) (s : List ℕ) where
@@ -63,7 +63,7 @@ module _ (l : Log) (s : List ℕ) where
 
   alike-A1 : Alike (announcementStep (kept l) s) (announcementStep l s)
   unfolding announcementStep
-  alike-A1 = subst (λ (p : Option ℕ × Tender). Alike (openedStep (kept l) p) (openedStep l (openTender s (l .admission)))) (sym (first-65-tell s (l .admission .codes))) (opens l (openTender s (l .admission)))
+  alike-A1 = subst (λ (p : Option ℕ × Tender). Alike (openedStep (kept l) p) (openedStep l (openTender s (uncapped (l .codes))))) (sym (first-65-tell s (l .codes))) (opens l (openTender s (uncapped (l .codes))))
 
   alike-A2 : Alike (receptionStep (kept l) s) (receptionStep l s)
   unfolding receptionStep

@@ -10,6 +10,7 @@ use Rattle.output.specs.Output.{Wrote}
 use Rattle.output.proofs.Output.{from-start}
 use Rattle.layout.specs.Fields.{lengthAt}
 use Rattle.layout.proofs.Fields.{first-byte}
+use Rattle.buffer.specs.Words.{tenderWords}
 use Rattle.log.specs.Steps.{Log, step, tagOf, contentOf, holdsField}
 use Rattle.steps.specs.declared.Standing.{Standing}
 use Rattle.steps.specs.declared.Taken.{Taken}
@@ -45,9 +46,9 @@ pub record Logging (input before : List ℕ) (first : Log) (space : List ℕ) (s
   pub room : n ≤ length before
   pub same : length space ≡ length before
   pub codes-length : length codes ≡ 65
-  pub words-length : length words ≡ 1496
+  pub words-length : length words ≡ tenderWords
 
-pub none-logged : (input space : List ℕ) (st : Standing) (codes words : List ℕ) → Given st words → length codes ≡ 65 → length words ≡ 1496 → Logging input space (viewed st codes words) space st codes words 0 0
+pub none-logged : (input space : List ℕ) (st : Standing) (codes words : List ℕ) → Given st words → length codes ≡ 65 → length words ≡ tenderWords → Logging input space (viewed st codes words) space st codes words 0 0
 none-logged input space st codes words g c w = record { runs = none-taken (viewed st codes words) input space; given = g; within = omega arith; room = omega arith; same = refl; codes-length = c; words-length = w }
 
 -- a run more, over the rest of the space

@@ -6,6 +6,7 @@ use Prim.Native.Nat.{ℕ, _-_, _≤_}
 use lib.Dec.{leb}
 use lib.ListN.{length, take, drop}
 use Rattle.output.specs.Output.{Wrote}
+use Rattle.buffer.specs.Words.{tenderWords}
 use Rattle.log.specs.Steps.{Log, start, holdsField, logFrom, logOf}
 use Rattle.endings.specs.Endings.{leftOf}
 use Rattle.steps.specs.Viewed as steps
@@ -36,7 +37,7 @@ pub record LogsIn (from : Log) (input space : List ℕ) (r : Ran) (codes words a
   pub all : (holdsField (drop (r .used) input) && not (r .standing .ended) && leb 23040 (length space - r .length)) ≡ false
   pub given : steps.Given (r .standing) words
   pub codes-length : length codes ≡ 65
-  pub words-length : length words ≡ 1496
+  pub words-length : length words ≡ tenderWords
 
 -- runs one after another over an input that arrives in pieces: each takes what the last one left and then more of the input
 pub data RunsAll : Log → List ℕ → List ℕ → Type 0 where

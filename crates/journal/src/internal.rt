@@ -7,6 +7,7 @@ ghost use mathlib.Core.Path.{_≡_};
 ghost use mathlib.Core.List.{List};
 ghost use Prim.Native.Nat.{ℕ};
 ghost use lib.ListN.{length};
+ghost use Rattle.buffer.specs.Words.{tenderWords};
 ghost use Rattle.log.specs.Steps.{start};
 ghost use Rattle.steps.specs.Viewed.{viewed, Given};
 ghost use Rattle.journal.specs.Runs.{LogsIn};
@@ -39,7 +40,7 @@ pub fn run_in(
     space: &mut [u8],
 ) -> Ran
     requires { ⌜ Given standing (now words) ⌝ }
-    requires { ⌜ (length (now codes) ≡ 65) × (length (now words) ≡ 1496) ⌝ }
+    requires { ⌜ (length (now codes) ≡ 65) × (length (now words) ≡ tenderWords) ⌝ }
     ensures { λ r. ⌜ LogsIn (viewed standing (now (codes .entry)) (now (words .entry))) (now (input .entry)) (now (space .entry)) r (now (codes .exit)) (now (words .exit)) (now (space .exit)) ⌝ }
 {
     let mut standing = standing;

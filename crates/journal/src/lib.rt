@@ -15,7 +15,7 @@ pub struct Journal {
     opened: bool,
     codes: [u32; 65],
     n: usize,
-    words: [u64; 1496],
+    words: [u64; 1560],
 }
 
 // The journal before the first field.
@@ -27,7 +27,7 @@ pub fn start() -> Journal
         opened: false,
         codes: [0; 65],
         n: 0,
-        words: [0; 1496],
+        words: [0; 1560],
     }
 }
 

@@ -5,6 +5,7 @@ use mathlib.Core.Option.{Option, none, some}
 use Prim.Native.Nat.{ℕ}
 use lib.Dec.{eqb, ltb}
 use lib.ListN.{length}
+use Rattle.rules.specs.Opening.{uncapped}
 use Rattle.rules.specs.Calls.{Tender, openTender}
 use Rattle.rules.specs.Events.{Kept}
 use Rattle.rules.proofs.Events.{kept-opened, kept-received, kept-closed, kept-allotted, kept-revoked}
@@ -21,11 +22,11 @@ either false x y p q = q
 
 module _ (l : Log) (k : KeptTender (l .tender)) where
   called : (call : Tender → Tender × List ℕ) → ((t : Tender) → Kept t → Kept (call t .0)) → (there : Option Tender) → KeptTender there
-      → Leaves (elim there [ none ↦ (l, []) | some t ↦ (record { ended = false; admission = l .admission; tender = some (call t .0) }, call t .1) ])
+      → Leaves (elim there [ none ↦ (l, []) | some t ↦ (record { ended = false; codes = l .codes; tender = some (call t .0) }, call t .1) ])
   called call h none there = k
   called call h (some t) there = h t there
 
-  admits : (codesIn : Option (List ℕ)) → Leaves (elim codesIn [ none ↦ ending l | some codes ↦ (record { ended = false; admission = record { codes = codes }; tender = l .tender }, []) ])
+  admits : (codesIn : Option (List ℕ)) → Leaves (elim codesIn [ none ↦ ending l | some codes ↦ (record { ended = false; codes = codes; tender = l .tender }, []) ])
   admits none = k
   admits (some codes) = k
 
@@ -40,7 +41,7 @@ module _ (l : Log) (k : KeptTender (l .tender)) where
 
     leaves-A1 : Leaves (announcementStep l s)
     unfolding announcementStep
-    leaves-A1 = opens (openTender s (l .admission)) (kept-opened s (l .admission))
+    leaves-A1 = opens (openTender s (uncapped (l .codes))) (kept-opened s (uncapped (l .codes)))
 
     leaves-A2 : Leaves (receptionStep l s)
     unfolding receptionStep

@@ -9,20 +9,20 @@ use Rattle.digits.specs.declared.Digits.{Digits}
 use Rattle.digits.specs.declared.Digits.the-variants.{Number, None}
 use Rattle.digits.specs.Decimal.{allDigits, digitsOf, numberIn}
 use Rattle.layout.specs.Fields.{lengthAt}
-use Rattle.rules.specs.Opening.{Admission, admitting}
+use Rattle.rules.specs.Opening.{uncapped}
 use Rattle.rules.specs.Receiving.{Reception}
 use Rattle.rules.specs.Calls.{Tender, Answer, confirmed, returned, refused, replySpace, Allotted, openTender, receive, close, allot, revoke}
 use Rattle.log.specs.Lines.{confirmedLine, returnedLine, refusedLine, awardLines}
 
--- whether the log has ended, whom the last A0 admits, and the tender of the last accepted A1, if there was one
+-- whether the log has ended, the codes that the last A0 admits, and the tender of the last accepted A1, if there was one
 pub record Log : Type 0 where
   pub ended : Bool
-  pub admission : Admission
+  pub codes : List ℕ
   pub tender : Option Tender
 
 -- 'before any A0, an empty list'
 abbrev pub start : Log
-start = record { ended = false; admission = admitting []; tender = none }
+start = record { ended = false; codes = []; tender = none }
 
 -- the state after a field, and its lines
 abbrev pub Step : Type 0
@@ -30,11 +30,11 @@ Step = Log × List ℕ
 
 -- '.. ends the log'
 abbrev pub ending : Log → Step
-ending l = (record { ended = true; admission = l .admission; tender = l .tender }, [])
+ending l = (record { ended = true; codes = l .codes; tender = l .tender }, [])
 
 -- 'Before an accepted A1, A2 to A5 are skipped.'
 abbrev pub onTender : Log → (Tender → Tender × List ℕ) → Step
-onTender l call = elim (l .tender) [ none ↦ (l, []) | some t ↦ (record { ended = false; admission = l .admission; tender = some (call t .0) }, call t .1) ]
+onTender l call = elim (l .tender) [ none ↦ (l, []) | some t ↦ (record { ended = false; codes = l .codes; tender = some (call t .0) }, call t .1) ]
 
 -- 'A0 admitted codes, five digits each': so many groups of five, or none where one is not digits
 abbrev pub andCode : Digits → Option (List ℕ) → Option (List ℕ)
@@ -51,15 +51,16 @@ unfoldable pub admittedIn : List ℕ → Option (List ℕ)
 admittedIn s = cond (eqb (length s % 5) 0) (groups (length s / 5) s) none
 
 unfoldable pub admissionStep : Log → List ℕ → Step
-admissionStep l s = elim (admittedIn s) [ none ↦ ending l | some codes ↦ (record { ended = false; admission = admitting codes; tender = l .tender }, []) ]
+admissionStep l s = elim (admittedIn s) [ none ↦ ending l | some codes ↦ (record { ended = false; codes = codes; tender = l .tender }, []) ]
 
 -- 'An accepted A1 starts a new tender with the last A0 ..; a refused one keeps the old.'
 abbrev pub openedStep : Log → Option ℕ × Tender → Step
-openedStep l (none, t) = (record { ended = false; admission = l .admission; tender = some t }, [])
+openedStep l (none, t) = (record { ended = false; codes = l .codes; tender = some t }, [])
 openedStep l (some n, t) = (l, refusedLine n)
 
+-- 'the log program passes zeros' for the limits
 unfoldable pub announcementStep : Log → List ℕ → Step
-announcementStep l s = openedStep l (openTender s (l .admission))
+announcementStep l s = openedStep l (openTender s (uncapped (l .codes)))
 
 -- 'A2 reception (date, time, message)'; 'A clock that is not digits counts as invalid': 00000000 is no date
 abbrev pub dateIn : List ℕ → List ℕ

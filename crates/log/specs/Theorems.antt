@@ -5,7 +5,7 @@ use mathlib.Core.List.{List, [], _∷_, _++_}
 use mathlib.Core.Option.{Option, none, some}
 use Prim.Native.Nat.{ℕ, zero, suc}
 use lib.ListN.{length, take}
-use Rattle.rules.specs.Opening.{admitting}
+use Rattle.rules.specs.Opening.{uncapped}
 use Rattle.rules.specs.Calls.{Tender, openTender}
 use Rattle.rules.specs.Events.{Kept}
 use Rattle.log.specs.Steps.{Log, start, step, tagOf, contentOf, afterField, holdsField, logOf}
@@ -34,4 +34,4 @@ StepsKeep = (l : Log) (tag : ℕ) (s : List ℕ) → KeptTender (l .tender) → 
 
 -- of the codes that are admitted the first 65 tell all that opening asks
 abbrev pub First65Tell : Type 0
-First65Tell = (m codes : List ℕ) → openTender m (admitting (take 65 codes)) ≡ openTender m (admitting codes)
+First65Tell = (m codes : List ℕ) → openTender m (uncapped (take 65 codes)) ≡ openTender m (uncapped codes)

@@ -13,7 +13,7 @@ const NO_RATE: u64 = 4294967296;
 // What stands for a refusal by condition 16.
 const EXCEEDS: u64 = 4294967297;
 
-// What stands for a slice with fewer than 640 elements.
+// What stands for a slice with fewer than 640 elements, or fewer than 64 limits.
 const SHORT: u64 = 4294967298;
 
 // The share a times m by e, for measuring only; 0 where the division does not take these numbers.
@@ -50,16 +50,20 @@ fn number_of(m: MarginalRate) -> u64 {
     }
 }
 
-// Allots to 640 places, writes the awards, zeros where condition 16 refuses, and gives the marginal rate or one of the numbers above, for measuring only.
+// Allots to 640 places with 64 limits, writes the awards, zeros where condition 16 refuses, and gives the marginal rate or one of the numbers above, for measuring only.
 #[no_mangle]
 pub extern "C" fn measured_allot(
     lp: bool,
     limit: u32,
     offered: u64,
+    limits: &[u64],
     rates: &[u32],
     amounts: &[u64],
     awards: &mut [u64],
 ) -> u64 {
+    if limits.len() < 64 {
+        return SHORT;
+    }
     if rates.len() < 640 {
         return SHORT;
     }
@@ -74,7 +78,13 @@ pub extern "C" fn measured_allot(
         limit: Rate(limit),
         offered: Amount(offered),
     };
-    let a = allot(o, &rates[0..640], &amounts[0..640], &mut awards[0..640]);
+    let a = allot(
+        o,
+        &limits[0..64],
+        &rates[0..640],
+        &amounts[0..640],
+        &mut awards[0..640],
+    );
     if a.exceeds {
         clear(awards);
         return EXCEEDS;

@@ -29,17 +29,18 @@ fn total(b: Book) -> u64 {
     sum
 }
 
-// Opens a tender for some codes, receives messages of 339 bytes each, and gives the eurocents that it holds then.
+// Opens a tender for some codes with their credit limits, receives messages of 339 bytes each, and gives the eurocents that it holds then.
 #[no_mangle]
 pub extern "C" fn measured_receptions(
     announcement: &[u8],
     codes: &[u32],
+    limits: &[u64],
     messages: &[u8],
     date: u64,
     time: u64,
     space: &mut [u8],
 ) -> u64 {
-    let opened = open(announcement, codes);
+    let opened = open(announcement, codes, limits);
     let t = opened.tender;
     total(received(t, messages, date, time, space).book())
 }

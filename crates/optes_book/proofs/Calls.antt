@@ -18,6 +18,7 @@ use Rattle.rules.specs.Calls as rules
 use Rattle.rules.specs.Calls.{answerTo}
 use Rattle.errors.specs.declared.Errors.{Errors}
 use Rattle.errors.specs.Listed.{named, listed}
+use Rattle.book.proofs.Empty.{zeros-after}
 use Rattle.marginal.specs.Ranks.{rateIn}
 use Rattle.numbers.specs.Numbers.{inArray}
 use Rattle.terms.specs.declared.OpenAnswer.{OpenAnswer}
@@ -26,9 +27,9 @@ use Rattle.refusals.specs.declared.Refusal.{Refusal}
 use Rattle.refusals.specs.Conditions.{refusalNumber, isSome}
 use Rattle.outcomes.specs.declared.internal.AllotAnswer.{AllotAnswer}
 use Rattle.outcomes.specs.Answers.{answerIn, answerOf, unlessConfirmed}
-use Rattle.buffer.specs.Words.{tenderIn, isTender}
+use Rattle.buffer.specs.Words.{tenderWords, tenderIn, isTender}
 use Rattle.buffer_opening.specs.Opening.{held, openedNumbers, OpensIn}
-use Rattle.buffer_opening.proofs.Opened.{zeros, zeros-left}
+use Rattle.buffer_opening.proofs.Opened.{zeros}
 use Rattle.in_place.specs.declared.internal.Told.{Told}
 use Rattle.in_place.specs.InPlace.{acceptedIn, holdingOf, ReceivesIn, ChangesIn, AllotsIn}
 use Rattle.optes_book.specs.Interface.{ifTender, answerNumber, codeOf, answerNumbers, toldOf, marginalNumbers, Opens, Receives, Changes, Allots}
@@ -43,9 +44,9 @@ module _ (ws : List ℕ) {A : Type 0} (told untold : A) where
 -- opening
 module _ (ws m : List ℕ) (a : Admission) where
   abbrev opened : ℕ × List ℕ
-  opened = (orZero (openingRefused m a), unlessRefused (openingRefused m a) ws (openedNumbers (held (termsOf m a)) (a .codes) ++ drop 1496 ws))
+  opened = (orZero (openingRefused m a), unlessRefused (openingRefused m a) ws (openedNumbers (held (termsOf m a)) a ++ drop tenderWords ws))
 
-  pub opens-short : leb 1496 (length ws) ≡ false → Opens ws m a 100 ws
+  pub opens-short : leb tenderWords (length ws) ≡ false → Opens ws m a 100 ws
   opens-short h =
       record {
         equal = sym (ap (λ (b : Bool). cond {A = ℕ × List ℕ} b opened (100, ws)) h);
@@ -53,7 +54,7 @@ module _ (ws m : List ℕ) (a : Admission) where
         given = λ q. absurd (false≢true (sym h ∙ q));
       }
 
-  pub opens-in : leb 1496 (length ws) ≡ true → (answer : OpenAnswer) (r : ℕ) (after : List ℕ) → OpensIn ws m a answer after → r ≡ orZero (openRefusal answer) → Opens ws m a r after
+  pub opens-in : leb tenderWords (length ws) ≡ true → (answer : OpenAnswer) (r : ℕ) (after : List ℕ) → OpensIn ws m a answer after → r ≡ orZero (openRefusal answer) → Opens ws m a r after
   opens-in h answer r after o e =
       record {
         equal = (λ i. ((e ∙ ap orZero (o .number)) i, o .words i)) ∙ sym (ap (λ (b : Bool). cond {A = ℕ × List ℕ} b opened (100, ws)) h);
@@ -149,7 +150,7 @@ answer-told e n few long w =
     ∙ from-start (zeros 18) ((n ∷ []) ++ (e .n ∷ []) ++ take (e .n - 0) (e .codes))
     ∙ ap (λ (l : List ℕ). n ∷ (e .n ∷ (l ++ drop (length l) (zeros 16)))) first
     ∙ ap (λ (k : ℕ). n ∷ (e .n ∷ (map codeOf (listed e) ++ drop k (zeros 16)))) codes
-    ∙ ap (λ (l : List ℕ). n ∷ (e .n ∷ (map codeOf (listed e) ++ l))) (zeros-left (e .n) 16 few)
+    ∙ ap (λ (l : List ℕ). n ∷ (e .n ∷ (map codeOf (listed e) ++ l))) (zeros-after (e .n) 16 few)
     ∙ ap (λ (k : ℕ). n ∷ (k ∷ (map codeOf (listed e) ++ replicate (16 - k) 0))) (sym count)
 
 pub kept-new : {A : Type 0} (l : Option ℕ) (old new : A) → l ≡ none → new ≡ unlessRefused l old new

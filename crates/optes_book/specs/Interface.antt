@@ -14,9 +14,9 @@ use Rattle.rules.specs.Calls as rules
 use Rattle.checks.specs.Columns.{receptionOf}
 use Rattle.numbers.specs.Numbers.{inArray}
 use Rattle.outcomes.specs.Answers.{unlessConfirmed}
-use Rattle.buffer.specs.Words.{tenderIn, isTender, termsIn, termsNumbers}
+use Rattle.buffer.specs.Words.{tenderWords, tenderIn, isTender, termsIn, termsNumbers}
 use Rattle.buffer_opening.specs.Opening.{held, openedNumbers}
-use Rattle.buffer_questions.specs.Told.{codesNumbers, entryOf, heldNumbers}
+use Rattle.buffer_questions.specs.Told.{countedNumbers, entryOf, heldNumbers}
 use Rattle.in_place.specs.InPlace.{acceptedIn, holdingOf}
 
 -- where the words hold no tender
@@ -27,9 +27,9 @@ ifTender ws told untold = cond (isTender ws) told untold
 pub record Opens (ws m : List ℕ) (a : Admission) (r : ℕ) (after : List ℕ) : Type 0 where
   pub equal :
       _≡_ {A = ℕ × List ℕ} (r, after)
-      (cond (leb 1496 (length ws)) (orZero (openingRefused m a), unlessRefused (openingRefused m a) ws (openedNumbers (held (termsOf m a)) (a .codes) ++ drop 1496 ws)) (100, ws))
-  pub tender : leb 1496 (length ws) ≡ true → openingRefused m a ≡ none → tenderIn after ≡ rules.openTender m a .1
-  pub given : leb 1496 (length ws) ≡ true → openingRefused m a ≡ none → isTender after ≡ true
+      (cond (leb tenderWords (length ws)) (orZero (openingRefused m a), unlessRefused (openingRefused m a) ws (openedNumbers (held (termsOf m a)) a ++ drop tenderWords ws)) (100, ws))
+  pub tender : leb tenderWords (length ws) ≡ true → openingRefused m a ≡ none → tenderIn after ≡ rules.openTender m a .1
+  pub given : leb tenderWords (length ws) ≡ true → openingRefused m a ≡ none → isTender after ≡ true
 
 -- the number of an answer
 abbrev pub answerNumber : rules.Answer → ℕ
@@ -88,7 +88,7 @@ pub record Allots (ws awards told : List ℕ) (r : ℕ) (after awards₂ told₂
   pub tender : isTender ws ≡ true → tenderIn after ≡ rules.allot (tenderIn ws) .1
   pub given : isTender ws ≡ true → isTender after ≡ true
 
--- the questions: where the tender stands, what was announced, who is admitted, what is held for a code
+-- the questions: where the tender stands, what was announced, who is admitted, up to which limits, what is held for a code
 abbrev pub stateNumber : rules.State → ℕ
 stateNumber rules.Open = 0
 stateNumber rules.Closed = 1
@@ -106,7 +106,10 @@ abbrev pub TellsTerms : List ℕ → List ℕ → ℕ → List ℕ → Type 0
 TellsTerms ws told r told₂ = Tells ws (termsNumbers (termsIn ws)) told r told₂
 
 abbrev pub TellsCodes : List ℕ → List ℕ → ℕ → List ℕ → Type 0
-TellsCodes ws told r told₂ = Tells ws (codesNumbers (tenderIn ws .terms .admission .codes)) told r told₂
+TellsCodes ws told r told₂ = Tells ws (countedNumbers (tenderIn ws .terms .admission .codes)) told r told₂
+
+abbrev pub TellsLimits : List ℕ → List ℕ → ℕ → List ℕ → Type 0
+TellsLimits ws told r told₂ = Tells ws (countedNumbers (tenderIn ws .terms .admission .limits)) told r told₂
 
 abbrev pub TellsHeld : List ℕ → ℕ → List ℕ → ℕ → List ℕ → Type 0
 TellsHeld ws code told r told₂ = Tells ws (heldNumbers (entryOf (tenderIn ws .book) code)) told r told₂

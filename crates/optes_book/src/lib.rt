@@ -4,6 +4,7 @@ use buffer::state_of;
 use buffer_opening::internal::open_in;
 use buffer_questions::internal::tell_codes;
 use buffer_questions::internal::tell_held;
+use buffer_questions::internal::tell_limits;
 use buffer_questions::internal::tell_terms;
 use buffer_questions::is_tender;
 use errors::Errors;
@@ -29,17 +30,22 @@ ghost use Rattle.marginal.specs.Ranks.{rateIn};
 ghost use Rattle.numbers.specs.Numbers.{inArray};
 ghost use Rattle.refusals.specs.Conditions.{stateOf};
 ghost use Rattle.buffer.specs.Words.{tenderIn};
-ghost use Rattle.optes_book.specs.Interface.{stateNumber, answerNumbers, marginalNumbers, Opens, Receives, Changes, Allots, TellsState, TellsTerms, TellsCodes, TellsHeld};
+ghost use Rattle.optes_book.specs.Interface.{stateNumber, answerNumbers, marginalNumbers, Opens, Receives, Changes, Allots, TellsState, TellsTerms, TellsCodes, TellsLimits, TellsHeld};
 
 // Opens a tender in the words.
 #[no_mangle]
-pub extern "C" fn optes_words_open(words: &mut [u64], m: &[u8], codes: &[u32]) -> u64
-    ensures { λ r. ⌜ Opens (now (words .entry)) (now (m .entry)) (admitting (now (codes .entry))) r (now (words .exit)) ⌝ }
+pub extern "C" fn optes_words_open(
+    words: &mut [u64],
+    m: &[u8],
+    codes: &[u32],
+    limits: &[u64],
+) -> u64
+    ensures { λ r. ⌜ Opens (now (words .entry)) (now (m .entry)) (admitting (now (codes .entry)) (now (limits .entry))) r (now (words .exit)) ⌝ }
 {
-    if words.len() < 1496 {
+    if words.len() < 1560 {
         return 100;
     }
-    let answer = open_in(words, m, codes);
+    let answer = open_in(words, m, codes, limits);
     number_of_answer(answer)
 }
 
@@ -202,6 +208,18 @@ pub extern "C" fn optes_words_codes(words: &[u64], told: &mut [u64]) -> u64
         return 100;
     }
     tell_codes(words, told);
+    0
+}
+
+// Up to which limits they are admitted.
+#[no_mangle]
+pub extern "C" fn optes_words_limits(words: &[u64], told: &mut [u64]) -> u64
+    ensures { λ r. ⌜ TellsLimits (now (words .entry)) (now (told .entry)) r (now (told .exit)) ⌝ }
+{
+    if !is_tender(words) {
+        return 100;
+    }
+    tell_limits(words, told);
     0
 }
 

@@ -32,14 +32,14 @@ module _ (t : Tender) (space : List ℕ) (r : AllotAnswer) where
       }
 
   -- refused by condition 16, or not
-  pub allots-bids : (first : Option ℕ) (bs : List Bid) (exceeds : Bool) (after : List ℕ) → bs ≡ bidsInBook (t .book) → first ≡ notClosed (t .state) → isSome first ≡ false
-      → refusalNumber (r .refusal) ≡ firstHolding ((16, exceeds) ∷ []) → _≡_ {A = Bool × Option ℕ × List ℕ} (exceeds, rateIn (r .marginal), after) (allottedTo (offerOf (t .terms)) bs space) → AllotsBids t space r after
+  pub allots-bids : (first : Option ℕ) (limits : List ℕ) (bs : List Bid) (exceeds : Bool) (after : List ℕ) → bs ≡ bidsInBook (t .book) → limits ≡ t .terms .admission .limits → first ≡ notClosed (t .state) → isSome first ≡ false
+      → refusalNumber (r .refusal) ≡ firstHolding ((16, exceeds) ∷ []) → _≡_ {A = Bool × Option ℕ × List ℕ} (exceeds, rateIn (r .marginal), after) (allottedTo (offerOf (t .terms)) limits bs space) → AllotsBids t space r after
   unfolding allottingRefused firstHolding bidsExceed
-  allots-bids first bs exceeds after all e h n a = go (ltb mostBids (total bs)) refl
+  allots-bids first limits bs exceeds after all capped e h n a = go (ltb mostBids (total bs)) refl
     where
       given : (b : Bool) → ltb mostBids (total bs) ≡ b
           → _≡_ {A = Bool × Option ℕ × List ℕ} (exceeds, rateIn (r .marginal), after) (cond b (true, none, space) (false, marginalGiven (t .terms) bs, awardsGiven (t .terms) bs))
-      given b q = a ∙ allotted-given (t .terms) bs space ∙ ap (λ (y : Bool). cond {A = Bool × Option ℕ × List ℕ} y (true, none, space) (false, marginalGiven (t .terms) bs, awardsGiven (t .terms) bs)) q
+      given b q = a ∙ ap (λ (l : List ℕ). allottedTo (offerOf (t .terms)) l bs space) capped ∙ allotted-given (t .terms) bs space ∙ ap (λ (y : Bool). cond {A = Bool × Option ℕ × List ℕ} y (true, none, space) (false, marginalGiven (t .terms) bs, awardsGiven (t .terms) bs)) q
 
       asked : (b : Bool) → ltb mostBids (total bs) ≡ b → allottingRefused t ≡ cond b (some 16) none
       asked b q =

@@ -2,9 +2,8 @@
 use mathlib.Core.Path.{_≡_, refl, sym, ap, _∙_}
 use mathlib.Core.List.{List, _++_}
 use mathlib.Core.Option.{Option, none, some}
-use Prim.Native.Nat.{ℕ, zero, suc, _-_, _≤_}
+use Prim.Native.Nat.{ℕ, _-_, _≤_}
 use native.Mathlib.Nat.{sub-zero}
-use native.Mathlib.Omega.{arith}
 use lib.ListN.{length, take, drop, replicate, take-append-drop}
 use lib.Seq.{take-at, length-take-le}
 use Rattle.envelope.specs.Refusals.{unlessRefused}
@@ -12,6 +11,7 @@ use Rattle.rules.specs.Allotment.{Bid}
 use Rattle.rules.specs.Calls as rules
 use Rattle.rules.specs.Calls.{bidsInBook, awardsGiven, in640, allotment, notAllotted, allot}
 use Rattle.bids.specs.Columns.{cents}
+use Rattle.book.proofs.Empty.{zeros-after}
 use Rattle.marginal.specs.Ranks.{rateIn}
 use Rattle.refusals.specs.Conditions.{refusalNumber}
 use Rattle.outcomes.specs.declared.internal.AllotAnswer.{AllotAnswer}
@@ -23,14 +23,6 @@ lent-length l n h = ap (λ (k : ℕ). length (take k l)) (sub-zero n) ∙ length
 
 pub lent-again : (part rest : List ℕ) (n : ℕ) → length part ≡ n → take (n - 0) (part ++ rest) ≡ part
 lent-again part rest n e = ap (λ (k : ℕ). take k (part ++ rest)) (sub-zero n) ∙ take-at part rest n e
-
--- what is left of zeros
-zeros-after : (m n : ℕ) → m ≤ n → drop {A = ℕ} m (replicate n 0) ≡ replicate (n - m) 0
-zeros-after zero n h = ap (λ (k : ℕ). replicate {A = ℕ} k 0) (sym (sub-zero n))
-zeros-after (suc m) zero h = absurd (omega arith)
-zeros-after (suc m) (suc n) h =
-    let e : n - m ≡ suc n - suc m = omega arith in
-    zeros-after m n (omega arith) ∙ ap (λ (k : ℕ). replicate {A = ℕ} k 0) e
 
 -- the awards of all places, written from zeros on: those of the bids in the book, then zeros
 module _ (t : rules.Tender) (a : AllotAnswer) (n : ℕ) (part : List ℕ) (few : n ≤ 640) (long : length part ≡ n) (awarded : AllotsBids t (take (n - 0) (replicate 640 0)) a part) where

@@ -7,7 +7,7 @@ use Rattle.envelope.specs.Refusals.{unlessRefused}
 use Rattle.rules.specs.Calls as rules
 use Rattle.bids.specs.Columns.{bidsOf}
 use Rattle.book.specs.declared.Book.{Book}
-use Rattle.book.specs.Viewed.{viewed}
+use Rattle.book.specs.Viewed.{viewed, limitsIn}
 use Rattle.marginal.specs.Ranks.{rateIn}
 use Rattle.terms.specs.declared.Terms.{Terms}
 use Rattle.refusals.specs.declared.State.{State}
@@ -24,7 +24,7 @@ pub record AllotsBids (t : rules.Tender) (space : List ℕ) (r : AllotAnswer) (a
   pub number : refusalNumber (r .refusal) ≡ rules.allottingRefused t
   pub awarded : _≡_ {A = Option ℕ × List ℕ} (rateIn (r .marginal), after) (unlessRefused (refusalNumber (r .refusal)) (none, space) (awardedTo t))
 
--- the same for any book that holds these bids
-abbrev pub AllotsAny : State → Terms → List ℕ → List ℕ → List ℕ → AllotAnswer → List ℕ → Type 0
-AllotsAny state terms rates amounts space r after =
-    (b : Book) → bidsOf rates amounts ≡ rules.bidsInBook (viewed b) → AllotsBids (viewedOf state terms b) space r after
+-- the same for any book that holds these bids and has these limits
+abbrev pub AllotsAny : State → Terms → List ℕ → List ℕ → List ℕ → List ℕ → AllotAnswer → List ℕ → Type 0
+AllotsAny state terms limits rates amounts space r after =
+    (b : Book) → bidsOf rates amounts ≡ rules.bidsInBook (viewed b) → limits ≡ limitsIn b → AllotsBids (viewedOf state terms b) space r after

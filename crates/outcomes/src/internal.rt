@@ -25,12 +25,12 @@ use refusals::not_open;
 use terms::Terms;
 ghost use mathlib.Core.Path.{_≡_};
 ghost use mathlib.Core.Bool.{true, false, _&&_};
-ghost use Prim.Native.Nat.{_≤_, _<_};
+ghost use Prim.Native.Nat.{_*_, _≤_, _<_};
 ghost use lib.ListN.{length};
 ghost use Rattle.calendar.specs.Calendar.{validDate, validTime};
 ghost use Rattle.layout.specs.Fields.{readable};
 ghost use Rattle.envelope.specs.Application.{layout6G1, fieldsOf, readRefusal};
-ghost use Rattle.book.specs.Viewed.{viewed};
+ghost use Rattle.book.specs.Viewed.{viewed, limitsIn};
 ghost use Rattle.refusals.specs.Conditions.{stateOf, refusalNumber};
 ghost use Rattle.outcomes.specs.Outcomes.{notReceiving, Checks, isHeld, entriesAfter, LeavesInAny};
 ghost use Rattle.outcomes.specs.Allotting.{AllotsAny};
@@ -172,16 +172,18 @@ pub struct AllotAnswer {
     pub marginal: MarginalRate,
 }
 
-// Allots to the bids of a book, given in book order, and writes their awards; refused, it writes nothing.
+// Allots to the bids of a book, given in book order, with the limits of its codes, and writes their awards; refused, it writes nothing.
 pub fn allot_bids(
     state: State,
     terms: Terms,
+    limits: &[u64],
     rates: &[u32],
     amounts: &[u64],
     awards: &mut [u64],
 ) -> AllotAnswer
     requires { ⌜ (length (now rates) ≡ length (now amounts)) × (length (now awards) ≡ length (now amounts)) × (length (now amounts) ≤ 640) ⌝ }
-    ensures { λ r. ⌜ AllotsAny state terms (now (rates .entry)) (now (amounts .entry)) (now (awards .entry)) r (now (awards .exit)) ⌝ }
+    requires { ⌜ 10 * length (now limits) ≡ length (now amounts) ⌝ }
+    ensures { λ r. ⌜ AllotsAny state terms (now (limits .entry)) (now (rates .entry)) (now (amounts .entry)) (now (awards .entry)) r (now (awards .exit)) ⌝ }
 {
     let first = not_closed(state);
     if is_refused(first) {
@@ -198,7 +200,7 @@ pub fn allot_bids(
         limit,
         offered,
     };
-    let allotment = allot(o, rates, amounts, awards);
+    let allotment = allot(o, limits, rates, amounts, awards);
     let marginal = allotment.marginal;
     AllotAnswer {
         refusal: bids_refusal(allotment.exceeds),
@@ -209,7 +211,7 @@ pub fn allot_bids(
 // The book after a reception.
 pub fn held_in(b: Book, o: Outcome) -> Book
     requires { ⌜ o .accepted .at < 64 ⌝ }
-    ensures { λ r. ⌜ (viewed r ≡ entriesAfter (viewed b) o) × (isHeld o ≡ false → r ≡ b) ⌝ }
+    ensures { λ r. ⌜ (viewed r ≡ entriesAfter (viewed b) o) × (limitsIn r ≡ limitsIn b) × (isHeld o ≡ false → r ≡ b) ⌝ }
 {
     if is_held(o) {
         let a = o.accepted;

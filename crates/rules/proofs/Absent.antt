@@ -21,10 +21,10 @@ keep-absent p h (b ∷ bs) k = ap (λ (l : List Bid). cond (p b) (b ∷ l) l) (k
 
 module _ (o : Offer) (bs : List Bid) (k : ℕ) where
   -- the bids, and k empty places after them
-  abbrev all : List Bid
+  abbrev pub all : List Bid
   all = bs ++ replicate k noBid
 
-  better : (r : ℕ) → totalBetter o all r ≡ totalBetter o bs r
+  pub better : (r : ℕ) → totalBetter o all r ≡ totalBetter o bs r
   unfolding totalBetter isBetter isIn filled
   better r = ap total (keep-absent (isBetter o r) refl bs k)
 

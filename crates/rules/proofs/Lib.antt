@@ -5,10 +5,12 @@ pub mod Best
 pub mod Division
 pub mod Sum
 pub mod Absent
+pub mod Cuts
 pub mod Links
 pub mod Walk
 pub mod Bound
 pub mod Rearranging
+pub mod Any
 pub mod Opening
 pub mod Cancelling
 pub mod Events

@@ -10,7 +10,7 @@ use Rattle.calendar.specs.Calendar.{validDate, validTime, later}
 use Rattle.rules.specs.Allotment.{Bid, keep, awards, sum, totalIn}
 use Rattle.rules.specs.Opening.{Admission, Terms, openingRefused, termsOf, offerOf}
 use Rattle.rules.specs.Receiving.{Reception, Submission, submission, cancels, tenZeros, isFrom}
-use Rattle.rules.specs.Calls.{Tender, replySpace, openTender, receive, close, allot, allotment}
+use Rattle.rules.specs.Calls.{Tender, replySpace, openTender, receive, close, bidsTaken, allot, allotment}
 
 -- 'every list of receptions, refused ones included, .. each on the tender that the last one returned'
 unfoldable pub receiveAll : Tender → List Reception → Tender
@@ -86,7 +86,7 @@ pub record Settled (m : List ℕ) (a : Admission) (rs : List Reception) (date ti
   -- 'They are document 01's for the final bids'
   pub awarded : allot (afterClosing m a rs date time) .2 ≡ allotment (termsOf m a) final
 
--- The demand, for every announcement and admitted list that opening accepts
+-- The demand, for every announcement, admitted list and limits that opening accepts
 abbrev pub ArrivalOrder : Type 0
 ArrivalOrder =
     (m : List ℕ) (a : Admission)
@@ -102,8 +102,8 @@ ArrivalOrder =
     → Settled m a rs date time (finalBook (termsOf m a) rs)
     × Settled m a rearranged date₂ time₂ (finalBook (termsOf m a) rs)
     × (allot (afterClosing m a rearranged date₂ time₂) .2 ≡ allot (afterClosing m a rs date time) .2)
-    -- 'The awards add up to the smaller of the amount offered and all final bids within the limit rate.'
-    × (sum (allot (afterClosing m a rs date time) .2 .awards) ≡ min (termsOf m a .offered) (totalIn (offerOf (termsOf m a)) (finalBook (termsOf m a) rs)))
+    -- 'The awards add up to the smaller of the amount offered and all final bids within the limit rate', as cut to the limits
+    × (sum (allot (afterClosing m a rs date time) .2 .awards) ≡ min (termsOf m a .offered) (totalIn (offerOf (termsOf m a)) (bidsTaken (termsOf m a) (finalBook (termsOf m a) rs))))
 
 -- any sound message of a counterparty that no other is later than gives its final bids
 abbrev pub AnyLatest : Type 0

@@ -11,6 +11,7 @@ use Rattle.envelope.specs.Refusals.{firstHolding, unlessRefused}
 use Rattle.envelope.specs.declared.application.Field.the-variants.{Sender, Cro}
 use Rattle.envelope.specs.Application.{bytesOf, unreadable}
 use Rattle.rules.specs.Allotment.{Bid, total, awards, marginalRate}
+use Rattle.rules.specs.Cuts.{cutBook}
 use Rattle.rules.specs.Opening.{Admission, Terms, openingRefused, termsOf, noTerms, offerOf}
 use Rattle.rules.specs.Receiving.{Reception, Error, Entry, submission, newBook, hold, returnedErrors}
 use Rattle.rules.specs.Replies.{confirmation, returnedMessage}
@@ -140,11 +141,11 @@ close t date time = (closingRefused t date time, unlessRefused (closingRefused t
 unfoldable pub allottingRefused : Tender → Option ℕ
 allottingRefused t = firstHolding ((8, isRevoked (t .state)) ∷ (14, isOpen (t .state)) ∷ (15, isAnnounced (t .state)) ∷ (16, bidsExceed t) ∷ [])
 
--- from the bids of a book, in book order, to what allotting gives: the bids that it takes, which are all of them
+-- from the bids of a book, in book order, to what allotting gives: 'Before the shares' they are cut to the limits
 unfoldable pub bidsTaken : Terms → List Bid → List Bid
-bidsTaken t bs = bs
+bidsTaken t bs = cutBook (offerOf t) (t .admission .limits) bs
 
--- their awards
+-- 'Awards, their total and the marginal rate are from then on those of the cut bids': the awards
 unfoldable pub bidAwards : Terms → List Bid → List ℕ
 bidAwards t bs = awards (offerOf t) (bidsTaken t bs)
 

@@ -1,4 +1,5 @@
 pub mod Allotment
+pub mod Cuts
 pub mod Opening
 pub mod Receiving
 pub mod Replies
@@ -10,3 +11,4 @@ pub mod Messages
 pub mod Marked
 pub mod OpeningRows
 pub mod Rows
+pub mod LimitRows

@@ -15,7 +15,7 @@ use Rattle.envelope.specs.declared.application.Application.{Application}
 use Rattle.envelope.specs.Application.{layout6G1, position as applicationPosition, texts, written}
 use Rattle.announcement.specs.declared.Field.{Field as AnnouncementField}
 use Rattle.announcement.specs.Announcement.{layout6G0, position as announcementPosition}
-use Rattle.rules.specs.Opening.{Admission, admitting, Terms, termsOf}
+use Rattle.rules.specs.Opening.{Admission, uncapped, Terms, termsOf}
 use Rattle.rules.specs.Receiving.{Reception}
 use Rattle.rules.specs.Calls.{replySpace}
 
@@ -91,7 +91,7 @@ abbrev pub admitted : List ℕ
 admitted = 90001 ∷ 90002 ∷ 90003 ∷ []
 
 abbrev pub admission : Admission
-admission = admitting admitted
+admission = uncapped admitted
 
 unfoldable pub terms : Terms
 terms = termsOf announcement admission

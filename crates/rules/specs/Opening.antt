@@ -1,4 +1,4 @@
--- The terms of a tender and the refusals of opening (document 01, 'What a call refuses' 1 to 7). Assumes nothing.
+-- The terms of a tender and the refusals of opening (document 01, 'What a call refuses' 1 to 7; document 02, S-2). Assumes nothing.
 use mathlib.Core.Bool.{Bool, true, false, not, _&&_, _||_}
 use mathlib.Core.List.{List, [], _∷_}
 use mathlib.Core.Option.{Option}
@@ -22,13 +22,22 @@ use Rattle.announcement.specs.declared.Announcement.{Announcement}
 use Rattle.announcement.specs.Announcement.{layout6G0, bytesOf, announcementOf, datesOrdered}
 use Rattle.rules.specs.Allotment.{Offer}
 
--- 'the admitted list': the codes of those who may bid
+-- 'the admitted list': the codes of those who may bid; 'Limits come with the admitted list, one a code'
 pub record Admission : Type 0 where
   pub codes : List ℕ
+  pub limits : List ℕ
 
--- the admitted list of these codes
-abbrev pub admitting : List ℕ → Admission
-admitting codes = record { codes = codes }
+-- the admitted list of these codes and limits
+abbrev pub admitting : List ℕ → List ℕ → Admission
+admitting codes limits = record { codes = codes; limits = limits }
+
+-- 'zero meaning uncapped': these codes, and a zero for each
+abbrev pub uncapped : List ℕ → Admission
+uncapped codes = admitting codes (replicate (length codes) 0)
+
+-- nobody admitted
+abbrev pub nobody : Admission
+nobody = admitting [] []
 
 -- what a tender keeps of its announcement, and who is admitted to it
 pub record Terms : Type 0 where
@@ -119,7 +128,15 @@ rising (c ∷ d ∷ codes) = ltb c d && rising (d ∷ codes)
 unfoldable pub badCodes : List ℕ → Bool
 badCodes codes = eqb (length codes) 0 || ltb 64 (length codes) || not (rising codes) || any (ltb 99999) codes
 
--- 'Opening checks 1 to 7'
+-- 'Refused: 19 when the limits are not as many as the codes'
+unfoldable pub limitsMiscounted : Admission → Bool
+limitsMiscounted a = not (eqb (length (a .limits)) (length (a .codes)))
+
+-- '20 when one has over fifteen digits'
+unfoldable pub limitTooLong : List ℕ → Bool
+limitTooLong limits = any (ltb 999999999999999) limits
+
+-- 'Opening checks 1 to 7', and 19 and 20, 'both after 7'
 unfoldable pub openingRefused : List ℕ → Admission → Option ℕ
 openingRefused m a =
     firstHolding
@@ -130,6 +147,8 @@ openingRefused m a =
     ∷ (5, impossibleNumbers m)
     ∷ (6, datesDisordered m)
     ∷ (7, badCodes (a .codes))
+    ∷ (19, limitsMiscounted a)
+    ∷ (20, limitTooLong (a .limits))
     ∷ [])
 
 -- the side of a type; an unknown type opens no tender
@@ -169,7 +188,7 @@ noTerms =
       maximum = 0;
       allocation = 0;
       limit = 0;
-      admission = admitting [];
+      admission = nobody;
     }
 
 abbrev pub offerOf : Terms → Offer

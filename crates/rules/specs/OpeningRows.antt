@@ -7,17 +7,24 @@ use Rattle.texts.specs.Texts.{ascii}
 use Rattle.announcement.specs.declared.Field.{Field}
 use Rattle.announcement.specs.declared.Field.the-variants.{MessageType, Sender, Recipient, Cro, Date, Time, Identifier, TenderType, SpotDate, ForwardDate, Cutoff}
 use Rattle.rules.specs.Allotment.{isIn}
-use Rattle.rules.specs.Opening.{admitting, Terms, openingRefused, termsOf, offerOf}
+use Rattle.rules.specs.Opening.{Admission, admitting, uncapped, Terms, openingRefused, termsOf, offerOf}
 use Rattle.rules.specs.Calls.{openTender}
 use Rattle.rules.specs.Messages.{_is_, Part, Execution, Most, Offered, Minimum, Increment, Maximum, Allocation, Limit, announcementWith, announcement, admitted, admission, message}
 use Rattle.rules.specs.Marked.{Row, row, listOf, bid}
 
 -- the refusal of opening: of some bytes, and of the announcement with some texts altered
 abbrev pub opening : List ℕ → List ℕ → List ℕ
-opening m codes = listOf (openingRefused m (admitting codes))
+opening m codes = listOf (openingRefused m (uncapped codes))
 
 abbrev pub openingWith : List (Field × List ℕ) → List (Part × List ℕ) → List ℕ
 openingWith fields parts = opening (announcementWith fields parts) admitted
+
+-- the same with limits
+abbrev pub limitedIn : List (Field × List ℕ) → List ℕ → List ℕ → List ℕ
+limitedIn fields codes limits = listOf (openingRefused (announcementWith fields []) (admitting codes limits))
+
+abbrev pub limited : List ℕ → List ℕ → List ℕ
+limited codes limits = limitedIn [] codes limits
 
 -- 65 codes that rise
 unfoldable pub rising65 : List ℕ
@@ -83,6 +90,16 @@ openingRows =
     ∷ row 7 (opening announcement (90002 ∷ 90003 ∷ 90001 ∷ [])) (7 ∷ [])
     ∷ row 7 (opening announcement (90001 ∷ 100000 ∷ [])) (7 ∷ [])
     ∷ row 7 (opening announcement (0 ∷ 99999 ∷ [])) []
+    ∷ row 19 (limited admitted []) (19 ∷ [])
+    ∷ row 19 (limited admitted (0 ∷ 0 ∷ [])) (19 ∷ [])
+    ∷ row 19 (limited admitted (0 ∷ 0 ∷ 0 ∷ 0 ∷ [])) (19 ∷ [])
+    ∷ row 20 (limited admitted (0 ∷ 1000000000000000 ∷ 0 ∷ [])) (20 ∷ [])
+    ∷ row 20 (limited admitted (0 ∷ 0 ∷ 1000000000000000 ∷ [])) (20 ∷ [])
+    ∷ row 20 (limited admitted (999999999999999 ∷ 1 ∷ 0 ∷ [])) []
+    -- in LA too
+    ∷ row 19 (limitedIn (TenderType is "NC/FD/LA/R/Y/VR/MR" ∷ []) admitted (1 ∷ [])) (19 ∷ [])
+    ∷ row 20 (limitedIn (TenderType is "NC/FD/LA/R/Y/VR/MR" ∷ []) admitted (1000000000000000 ∷ 0 ∷ 0 ∷ [])) (20 ∷ [])
+    ∷ row 20 (limitedIn (TenderType is "NC/FD/LA/R/Y/VR/MR" ∷ []) admitted (1 ∷ 999999999999999 ∷ 0 ∷ [])) []
     ∷ []
 
 -- 'returns the number of the first': two neighbouring conditions at once
@@ -94,6 +111,9 @@ openingOrderRows =
     ∷ row 4 (openingWith (TenderType is "NC/FD/LP/R/Y/VR/SR" ∷ []) (Most is "11" ∷ [])) (4 ∷ [])
     ∷ row 5 (openingWith (Date is "13032012" ∷ []) (Most is "11" ∷ [])) (5 ∷ [])
     ∷ row 6 (opening (announcementWith (Date is "13032012" ∷ []) []) []) (6 ∷ [])
+    ∷ row 7 (limited (90002 ∷ 90001 ∷ []) (0 ∷ [])) (7 ∷ [])
+    ∷ row 7 (limited (90002 ∷ 90001 ∷ []) (0 ∷ 1000000000000000 ∷ [])) (7 ∷ [])
+    ∷ row 19 (limited admitted (1000000000000000 ∷ [])) (19 ∷ [])
     ∷ []
 
 -- an announcement byte by byte, each tag and length a number; no two of its numbers are the same
@@ -122,14 +142,14 @@ built6G0 =
 -- the numbers of a tender's terms
 unfoldable pub termNumbers : Terms → List ℕ
 termNumbers t =
-    t .execution ∷ t .cutOff ∷ t .most ∷ t .offered ∷ t .minimum ∷ t .increment ∷ t .maximum ∷ t .allocation ∷ t .limit ∷ t .admission .codes
+    t .execution ∷ t .cutOff ∷ t .most ∷ t .offered ∷ t .minimum ∷ t .increment ∷ t .maximum ∷ t .allocation ∷ t .limit ∷ (t .admission .codes ++ t .admission .limits)
 
 unfoldable pub termRows : List Row
 termRows =
     row 225 literal6G0 built6G0
     ∷ row 225 (opening literal6G0 admitted) []
-    ∷ row 225 (termNumbers (termsOf literal6G0 admission))
-    (12032012 ∷ 110000 ∷ 4 ∷ 900000 ∷ 20000 ∷ 3000 ∷ 80000 ∷ 1000 ∷ 150000 ∷ 90001 ∷ 90002 ∷ 90003 ∷ [])
+    ∷ row 225 (termNumbers (termsOf literal6G0 (admitting admitted (7 ∷ 0 ∷ 5 ∷ []))))
+    (12032012 ∷ 110000 ∷ 4 ∷ 900000 ∷ 20000 ∷ 3000 ∷ 80000 ∷ 1000 ∷ 150000 ∷ 90001 ∷ 90002 ∷ 90003 ∷ 7 ∷ 0 ∷ 5 ∷ [])
     ∷ row 225 (termsOf literal6G0 admission .identifier) (ascii "T/2012/0042")
     -- it is LA: a bid above the limit rate is out
     ∷ record { mark = 225; holds = isIn (offerOf (termsOf literal6G0 admission)) (bid (149000, 20000)) }

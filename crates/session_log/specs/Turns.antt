@@ -5,6 +5,7 @@ use mathlib.Core.List.{List, [], _++_}
 use Prim.Native.Nat.{ℕ, _+_, _-_, _≤_, min}
 use lib.IntN.{ℤ, pos, negsuc}
 use lib.ListN.{length, take, drop}
+use Rattle.buffer.specs.Words.{tenderWords}
 use Rattle.log.specs.Steps.{holdsField, logFrom, logOf}
 use Rattle.log.specs.Steps as log
 use Rattle.journal.specs.Runs.{Runs}
@@ -30,7 +31,7 @@ pub record Within (t : Turn) (input : List ℕ) : Type 0 where
 pub record Journal (t : Turn) (codes words : List ℕ) : Type 0 where
   pub given : Given (t .standing) words
   pub codes-length : length codes ≡ 65
-  pub words-length : length words ≡ 1496
+  pub words-length : length words ≡ tenderWords
 
 -- a text is the lines of the fields that were taken between two turns: the log from the first turn on is the text and then the log from the second on, whatever follows
 abbrev pub Lines : Turn → List ℕ → List ℕ → Turn → List ℕ → List ℕ → List ℕ → List ℕ → Type 0

@@ -68,7 +68,7 @@ fn take_fields(
 fn write_lines(
     t: Turn,
     codes: [u32; 65],
-    words: [u64; 1496],
+    words: [u64; 1560],
     next: Turn,
     next_codes: &[u32],
     next_words: &[u64],
@@ -89,7 +89,7 @@ fn write_lines(
 fn log_fields(
     t: Turn,
     codes: &mut [u32; 65],
-    words: &mut [u64; 1496],
+    words: &mut [u64; 1560],
     input: &[u8],
     lines: &mut [u8],
 ) -> Turn
@@ -178,7 +178,7 @@ fn read_more(t: Turn, input: &mut [u8]) -> Turn
 fn next_turn(
     t: Turn,
     codes: &mut [u32; 65],
-    words: &mut [u64; 1496],
+    words: &mut [u64; 1560],
     input: &mut [u8],
     lines: &mut [u8],
 ) -> Turn
@@ -226,9 +226,9 @@ fn log_all(input: &mut [u8], lines: &mut [u8])
     requires { ⌜ 23040 ≤ length (now lines) ⌝ }
 {
     let mut codes = [0u32; 65];
-    let mut words = [0u64; 1496];
+    let mut words = [0u64; 1560];
     // Refused, and changes nothing: with a second caller the opening stays a call, and a turn small enough for the compiler to join it with its caller.
-    open_in(&mut words, b"", &codes[0..0]);
+    open_in(&mut words, b"", &codes[0..0], &[0u64; 0]);
     let mut now = Turn {
         more: true,
         reads: true,

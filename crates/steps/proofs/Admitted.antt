@@ -13,7 +13,6 @@ use borrow.Author.Tests.{eqb-true}
 use Rattle.laws.proofs.Tests.{and-left, and-right}
 use Rattle.output.proofs.Output.{nothing}
 use Rattle.digits.specs.Decimal.{allDigits}
-use Rattle.rules.specs.Opening.{admitting}
 use Rattle.log.specs.Steps.{Log, Step, admissionStep, ending}
 use Rattle.session_fields.specs.Codes.{codesFrom}
 use Rattle.session_fields.proofs.Codes.{codes-kept, admitted-are}
@@ -24,7 +23,7 @@ use Rattle.steps.proofs.Taking.{takes-as, takes-ended}
 
 -- the step of an A0 in groups of five digits, and of another
 abbrev stepOn : Log → Option (List ℕ) → Step
-stepOn l admittedCodes = elim admittedCodes [ none ↦ ending l | some codes ↦ (record { ended = false; admission = admitting codes; tender = l .tender }, []) ]
+stepOn l admittedCodes = elim admittedCodes [ none ↦ ending l | some codes ↦ (record { ended = false; codes = codes; tender = l .tender }, []) ]
 
 admission-is : (l : Log) (s : List ℕ) (t : Bool) → eqb (length s % 5) 0 && allDigits s ≡ t → stepOn l (cond t (some (codesFrom (length s / 5) s)) none) ≡ admissionStep l s
 unfolding admissionStep
@@ -47,7 +46,7 @@ module _ (st : Standing) (codes words s space : List ℕ) (g : Given st words) w
       let k : take 65 (codesFrom (length s / 5) s) ≡ take n after = codes-kept (length s / 5) 65 s ∙ ap (λ (i : ℕ). codesFrom i s) (sym m) ∙ sym e in
       takes-as (admission-is (viewed st codes words) s true h)
       (record {
-        state = λ i. record { ended = false; admission = admitting (k i); tender = viewed st codes words .tender };
+        state = λ i. record { ended = false; codes = (k i); tender = viewed st codes words .tender };
         lines = nothing space 0;
         given = record { few = few; tender = g .tender };
       })

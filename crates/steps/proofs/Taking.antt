@@ -12,7 +12,6 @@ use borrow.Author.Tests.{eq-eqb, ne-eqb}
 use Rattle.output.specs.Output.{Wrote}
 use Rattle.output.proofs.Output.{nothing, said}
 use Rattle.envelope.specs.Refusals.{orZero}
-use Rattle.rules.specs.Opening.{admitting}
 use Rattle.rules.specs.Calls.{Tender}
 use Rattle.buffer.specs.Words.{tenderIn}
 use Rattle.log.specs.Lines.{refusedLine}
@@ -59,7 +58,7 @@ stepped l tag s e expected h = sym (ap (λ (b : Bool). cond b (l, []) (byTag l t
 
 -- the log with so many codes, ended or not, and with a tender or not
 abbrev logOf : List ℕ → Bool → Option Tender → Log
-logOf codes ended tender = record { ended = ended; admission = admitting codes; tender = tender }
+logOf codes ended tender = record { ended = ended; codes = codes; tender = tender }
 
 -- the tender by whether there is one
 abbrev there : List ℕ → Bool → Option Tender

@@ -6,7 +6,6 @@ use mathlib.Core.Option.{none, some}
 use Prim.Native.Nat.{ℕ, _≤_}
 use lib.ListN.{take}
 use Rattle.output.specs.Output.{Wrote}
-use Rattle.rules.specs.Opening.{admitting}
 use Rattle.rules.specs.Calls.{Tender}
 use Rattle.buffer.specs.Words.{tenderIn, isTender}
 use Rattle.log.specs.Steps.{Log, Step}
@@ -15,7 +14,7 @@ use Rattle.steps.specs.declared.Taken.{Taken}
 
 -- the first n of the codes are those of the last A0, and the words are the tender, if there is one
 abbrev pub viewed : Standing → List ℕ → List ℕ → Log
-viewed st codes words = record { ended = st .ended; admission = admitting (take (st .n) codes); tender = cond (st .opened) (some (tenderIn words)) none }
+viewed st codes words = record { ended = st .ended; codes = (take (st .n) codes); tender = cond (st .opened) (some (tenderIn words)) none }
 
 -- what holds of every standing with its words
 pub record Given (st : Standing) (words : List ℕ) : Type 0 where
@@ -29,7 +28,7 @@ pub record Ready (st : Standing) (words : List ℕ) : Type 0 where
 
 -- of the codes of an A0 a journal keeps the first 65, which tell all that opening asks
 abbrev pub kept : Log → Log
-kept l = record { ended = l .ended; admission = admitting (take 65 (l .admission .codes)); tender = l .tender }
+kept l = record { ended = l .ended; codes = (take 65 (l .codes)); tender = l .tender }
 
 -- the state and the lines that are expected of a field, with the codes and words that it leaves, from a space to what it holds after
 pub record Takes (expected : Step) (space : List ℕ) (r : Taken) (codes words left : List ℕ) : Type 0 where

@@ -26,7 +26,7 @@ ghost use Prim.Native.Nat.{ℕ, _≤_};
 ghost use lib.ListN.{length, take};
 ghost use Rattle.output.specs.Output.{Wrote};
 ghost use Rattle.refusals.specs.Conditions.{refusalNumber};
-ghost use Rattle.buffer.specs.Words.{tenderIn, isTender};
+ghost use Rattle.buffer.specs.Words.{tenderWords, tenderIn, isTender};
 ghost use Rattle.log.specs.Steps.{refusal, allotted, admissionStep, announcementStep, receptionStep, closingStep, revocationStep, allottingStep};
 ghost use Rattle.steps.specs.Viewed.{viewed, Given, Ready, Takes, Calls, endedAt};
 
@@ -77,7 +77,7 @@ pub fn admission(standing: Standing, codes: &mut [u32], s: &[u8]) -> Taken
     ended(standing)
 }
 
-// A1: an announcement.
+// A1: an announcement. The codes of a log come without limits: it opens with a zero for each.
 pub fn announcement(
     standing: Standing,
     codes: &[u32],
@@ -86,11 +86,12 @@ pub fn announcement(
     space: &mut [u8],
 ) -> Taken
     requires { ⌜ Ready standing (now words) ⌝ }
-    requires { ⌜ (length (now codes) ≡ 65) × (1496 ≤ length (now words)) × (11 ≤ length (now space)) ⌝ }
+    requires { ⌜ (length (now codes) ≡ 65) × (tenderWords ≤ length (now words)) × (11 ≤ length (now space)) ⌝ }
     ensures { λ r. ⌜ Takes (announcementStep (viewed standing (now (codes .entry)) (now (words .entry))) (now (s .entry))) (now (space .entry)) r (now (codes .entry)) (now (words .exit)) (now (space .exit)) ⌝ }
 {
     let n = standing.n;
-    let answer = open_in(words, s, &codes[0..n]);
+    let zeros = [0u64; 65];
+    let answer = open_in(words, s, &codes[0..n], &zeros[0..n]);
     if is_opened(answer) {
         return Taken {
             standing: Standing {

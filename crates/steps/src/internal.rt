@@ -25,6 +25,7 @@ ghost use Rattle.envelope.specs.Application.{layout6G1};
 ghost use Rattle.errors.specs.Listed.{listed};
 ghost use Rattle.refusals.specs.Conditions.{refusalNumber};
 ghost use Rattle.outcomes.specs.Answers.{answerIn};
+ghost use Rattle.buffer.specs.Words.{tenderWords};
 ghost use Rattle.log.specs.Steps.{answerLine, step};
 ghost use Rattle.steps.specs.Viewed.{viewed, Ready, Takes};
 
@@ -55,7 +56,7 @@ pub fn step(
     space: &mut [u8],
 ) -> Taken
     requires { ⌜ Ready standing (now words) ⌝ }
-    requires { ⌜ (length (now codes) ≡ 65) × (length (now words) ≡ 1496) × (23040 ≤ length (now space)) ⌝ }
+    requires { ⌜ (length (now codes) ≡ 65) × (length (now words) ≡ tenderWords) × (23040 ≤ length (now space)) ⌝ }
     ensures { λ r. ⌜ Takes (step (viewed standing (now (codes .entry)) (now (words .entry))) tag (now (s .entry))) (now (space .entry)) r (now (codes .exit)) (now (words .exit)) (now (space .exit)) ⌝ }
 {
     match tag {

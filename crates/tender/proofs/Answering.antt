@@ -39,15 +39,16 @@ receives-refused t g x r none-listed none-there zero-long same h s =
 
 -- not refused: what the message left in the book, and its reply
 module _ (t : Tender) (g : Given t) (x : Reception) (e : Errors) (n : ℕ) (next : Book) (after : List ℕ)
-    (left : _≡_ {A = List Error × List Entry} (listed e, book.viewed next) (submitted (viewed t .terms) (viewed t .book) x)) where
+    (left : _≡_ {A = List Error × List Entry} (listed e, book.viewed next) (submitted (viewed t .terms) (viewed t .book) x))
+    (capped : book.limitsIn next ≡ book.limitsIn (t .book)) where
   abbrev tender : Tender
   tender = tenderOf (t .state) (t .terms) next
 
-  -- the codes of the book stay
+  -- the codes of the book and their limits stay
   tender-is : viewed tender ≡ record { terms = viewed t .terms; state = viewed t .state; book = book.viewed next }
   tender-is =
       let codes = codes-left (viewed t) x e n (book.viewed next) after left g in
-      λ i. record { terms = terms.viewed (t .terms) (admitting (codes i)); state = viewed t .state; book = book.viewed next }
+      λ i. record { terms = terms.viewed (t .terms) (admitting (codes i) (capped i)); state = viewed t .state; book = book.viewed next }
 
   pub receives-answered : receivingRefused (viewed t) x ≡ none → (isEmpty (listed e) ≡ false → next ≡ t .book) → e .n ≤ 16
       → Wrote (x .space) 0 (reply (listed e) (t .terms .identifier) (x .message) (x .time)) after n

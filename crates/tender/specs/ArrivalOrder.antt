@@ -56,5 +56,5 @@ ArrivalOrderOfCalls =
     -- awards and marginal rate are document 01's for the final bids, and the same after the rearrangement
     × (allottedIn allotted ≡ rules.allotment (termsOf m a) (finalBook (termsOf m a) rs))
     × (allottedIn allotted₂ ≡ allottedIn allotted)
-    -- the awards add up
-    × (sum (allottedIn allotted .awards) ≡ min (termsOf m a .offered) (totalIn (offerOf (termsOf m a)) (finalBook (termsOf m a) rs)))
+    -- the awards add up to the smaller of the amount offered and all final bids within the limit rate, as cut to the limits
+    × (sum (allottedIn allotted .awards) ≡ min (termsOf m a .offered) (totalIn (offerOf (termsOf m a)) (rules.bidsTaken (termsOf m a) (finalBook (termsOf m a) rs))))

@@ -75,15 +75,16 @@ pub struct Allotted {
     pub marginal: MarginalRate,
 }
 
-// The tender of an announcement and the codes admitted to it; a refused opening gives an empty one that is revoked.
-pub fn open(m: &[u8], codes: &[u32]) -> Opened
-    ensures { λ r. ⌜ Opens (now (m .entry)) (admitting (now (codes .entry))) r ⌝ }
+// The tender of an announcement and the codes admitted to it, with a credit limit for each, zero where it has none; a refused opening gives an empty
+// tender that is revoked.
+pub fn open(m: &[u8], codes: &[u32], limits: &[u64]) -> Opened
+    ensures { λ r. ⌜ Opens (now (m .entry)) (admitting (now (codes .entry)) (now (limits .entry))) r ⌝ }
 {
-    let opening = terms::open(m, codes);
+    let opening = terms::open(m, codes, limits);
     let answer = opening.answer;
     let terms = opening.terms;
     if is_opened(answer) {
-        let book = new_book(codes);
+        let book = new_book(codes, limits);
         Opened {
             answer,
             tender: Tender {
@@ -93,7 +94,7 @@ pub fn open(m: &[u8], codes: &[u32]) -> Opened
             },
         }
     } else {
-        let book = new_book(&codes[0..0]);
+        let book = new_book(&codes[0..0], &limits[0..0]);
         Opened {
             answer,
             tender: Tender {
@@ -235,15 +236,18 @@ impl Tender {
         let state = self.state;
         let terms = self.terms;
         let book = self.book;
+        let limits = book.limits;
         let held_rates = book.rates;
         let held_amounts = book.amounts;
         let rates = numbers_of(held_rates);
         let amounts = cents_of(held_amounts);
-        let end = 10 * up_to_64(book.n);
+        let n = up_to_64(book.n);
+        let end = 10 * n;
         let mut cents = [0u64; 640];
         let answer = allot_bids(
             state,
             terms,
+            &limits[0..n],
             &rates[0..end],
             &amounts[0..end],
             &mut cents[0..end],

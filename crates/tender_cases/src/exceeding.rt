@@ -5,13 +5,14 @@ use crate::steps;
 use outcomes::internal::allot_bids;
 use tender::State;
 
-// Allots two bids of document 01's terms, and prints their awards.
-fn allot(name: &[u8], first: u64, second: u64) {
+// Allots two bids of a code with a limit under document 01's terms, and prints their awards.
+fn allot(name: &[u8], limit: u64, first: u64, second: u64) {
     let terms = steps::opened(announcement()).terms();
-    let rates = [150000u32, 140000];
-    let amounts = [first, second];
-    let mut awards = [0u64; 2];
-    let answer = allot_bids(State::Closed, terms, &rates, &amounts, &mut awards);
+    let limits = [limit];
+    let rates = [150000u32, 140000, 0, 0, 0, 0, 0, 0, 0, 0];
+    let amounts = [first, second, 0, 0, 0, 0, 0, 0, 0, 0];
+    let mut awards = [0u64; 10];
+    let answer = allot_bids(State::Closed, terms, &limits, &rates, &amounts, &mut awards);
     let refusal = answer.refusal;
     let marginal = answer.marginal;
     printing::text(name);
@@ -22,8 +23,10 @@ fn allot(name: &[u8], first: u64, second: u64) {
     printing::end();
 }
 
-// 16: the most that a book may hold, and one cent more.
+// 16: the most that a book may hold, and one cent more, whatever a limit leaves of it.
 pub fn bids() {
-    allot(b"most cents", 999999999999999998, 1);
-    allot(b"one cent more", 999999999999999998, 2);
+    allot(b"most cents", 0, 999999999999999998, 1);
+    allot(b"one cent more", 0, 999999999999999998, 2);
+    allot(b"most cents, capped", 40000, 999999999999999998, 1);
+    allot(b"one cent more, capped", 40000, 999999999999999998, 2);
 }

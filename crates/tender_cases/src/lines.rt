@@ -39,6 +39,8 @@ fn opening_number(a: OpenAnswer) -> u64 {
         OpenAnswer::Impossible => 5,
         OpenAnswer::Disordered => 6,
         OpenAnswer::BadCodes => 7,
+        OpenAnswer::LimitsMiscounted => 19,
+        OpenAnswer::LimitTooLong => 20,
     }
 }
 

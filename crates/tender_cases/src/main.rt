@@ -1,6 +1,6 @@
 // Cases of the calls on a tender that run instead of being proved. Most of them stand in the file
-// stdin. What is printed is held to the file stdout, which was calculated from document 01 and not
-// by this program.
+// stdin. What is printed is held to the file stdout, which was calculated from documents 01 and
+// 02 and not by this program.
 mod branches;
 mod exceeding;
 mod lines;
@@ -17,6 +17,7 @@ fn main() {
     let n = io::read_full(0, &mut input);
     script::run(parts::part(&input, 0, n));
     lists::codes();
+    lists::limits();
     orders::all();
     exceeding::bids();
     branches::all();

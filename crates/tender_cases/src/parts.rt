@@ -17,9 +17,9 @@ pub fn rest(text: &[u8], from: usize) -> &[u8] {
     part(text, from, text.len())
 }
 
-// A number of at most eight digits, 0 where it is none.
+// A number of at most fifteen digits, 0 where it is none.
 pub fn number(text: &[u8]) -> u64 {
-    if text.len() <= 8 {
+    if text.len() <= 15 {
         return digits::number_of(digits::internal::number(text));
     }
     0

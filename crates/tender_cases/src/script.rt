@@ -36,17 +36,40 @@ fn altered(m: [u8; 339], line: &[u8]) -> [u8; 339] {
     }
 }
 
-// A call without a clock.
-fn call(t: Tender, a: [u8; 225], line: &[u8]) -> Tender
+// The three limits that a line names.
+fn limits(line: &[u8]) -> [u64; 3] {
+    let mut limits = [0u64; 3];
+    limits[0] = number(part(line, 2, 17));
+    limits[1] = number(part(line, 18, 33));
+    limits[2] = number(part(line, 34, 49));
+    limits
+}
+
+// An opening for the codes 90001 to 90003.
+fn opening(t: Tender, a: [u8; 225], line: &[u8]) -> Tender
     requires { ⌜ Given t ⌝ }
     ensures { λ r. ⌜ Given r ⌝ }
 {
     let codes = [90001u32, 90002, 90003];
     let kind = initial(line);
-    let name = rest(line, 2);
     if kind == b'O' {
-        return steps::open(name, a, &codes);
+        let none = [0u64; 3];
+        return steps::open(rest(line, 2), a, &codes, &none);
     }
+    if kind == b'K' {
+        let limits = limits(line);
+        return steps::open(rest(line, 50), a, &codes, &limits);
+    }
+    t
+}
+
+// A call without a clock.
+fn call(t: Tender, line: &[u8]) -> Tender
+    requires { ⌜ Given t ⌝ }
+    ensures { λ r. ⌜ Given r ⌝ }
+{
+    let kind = initial(line);
+    let name = rest(line, 2);
     if kind == b'A' {
         return steps::allot(name, t);
     }
@@ -97,7 +120,8 @@ fn step(s: Session, line: &[u8]) -> Session
     let t = s.tender;
     let announcement = announced(a, line);
     let message = altered(m, line);
-    let called = call(t, announcement, line);
+    let opened = opening(t, announcement, line);
+    let called = call(opened, line);
     let tender = timed(called, message, line);
     Session {
         announcement,

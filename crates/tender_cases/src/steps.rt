@@ -4,19 +4,20 @@ use crate::spaces;
 use tender::Tender;
 ghost use Rattle.tender.specs.Viewed.{Given};
 
-// Opens a tender of an announcement, for the codes 90001 to 90003.
+// Opens a tender of an announcement, for the codes 90001 to 90003 without limits.
 pub fn opened(a: [u8; 225]) -> Tender
     ensures { λ r. ⌜ Given r ⌝ }
 {
     let codes = [90001u32, 90002, 90003];
-    tender::open(&a, &codes).tender
+    let limits = [0u64; 3];
+    tender::open(&a, &codes, &limits).tender
 }
 
 // Opens a tender.
-pub fn open(name: &[u8], a: [u8; 225], codes: &[u32]) -> Tender
+pub fn open(name: &[u8], a: [u8; 225], codes: &[u32], limits: &[u64]) -> Tender
     ensures { λ r. ⌜ Given r ⌝ }
 {
-    let o = tender::open(&a, codes);
+    let o = tender::open(&a, codes, limits);
     let answer = o.answer;
     printing::text(name);
     lines::opened(answer);

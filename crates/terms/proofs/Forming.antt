@@ -12,7 +12,7 @@ use Rattle.announcement.specs.Announcement.{layout6G0, announcementOf, reading}
 use Rattle.rules.specs.Opening.{Admission, isDate, isTime, wellFormed, notAnnouncement, openingRefused}
 use Rattle.rules.proofs.Opening.{next-condition}
 use Rattle.terms.specs.declared.OpenAnswer.{OpenAnswer}
-use Rattle.terms.specs.declared.OpenAnswer.the-variants.{Opened, NotAnnouncement, OtherOrigin, Malformed, UnknownType, Impossible, Disordered, BadCodes}
+use Rattle.terms.specs.declared.OpenAnswer.the-variants.{Opened, NotAnnouncement, OtherOrigin, Malformed, UnknownType, Impossible, Disordered, BadCodes, LimitsMiscounted, LimitTooLong}
 use Rattle.terms.specs.Viewed.{referencesFormed, datesFormed, openRefusal, isOpened}
 
 regroup : (x v s f t : Bool) → x && (v && s && f && t) ≡ x && v && s && f && t
@@ -46,6 +46,8 @@ opened-none UnknownType h = absurd (false≢true h)
 opened-none Impossible h = absurd (false≢true h)
 opened-none Disordered h = absurd (false≢true h)
 opened-none BadCodes h = absurd (false≢true h)
+opened-none LimitsMiscounted h = absurd (false≢true h)
+opened-none LimitTooLong h = absurd (false≢true h)
 
 pub refused-some : (a : OpenAnswer) → isOpened a ≡ false → (n : ℕ) × (openRefusal a ≡ some n)
 refused-some Opened h = absurd (false≢true (sym h))
@@ -56,3 +58,5 @@ refused-some UnknownType h = (4, refl)
 refused-some Impossible h = (5, refl)
 refused-some Disordered h = (6, refl)
 refused-some BadCodes h = (7, refl)
+refused-some LimitsMiscounted h = (19, refl)
+refused-some LimitTooLong h = (20, refl)

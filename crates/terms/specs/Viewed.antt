@@ -7,18 +7,18 @@ use Prim.Native.Nat.{ℕ, _+_}
 use lib.Dec.{leb}
 use Rattle.calendar.specs.Calendar.{validDate}
 use Rattle.digits.specs.Decimal.{isNumber, numberIn}
-use Rattle.envelope.specs.Refusals.{unlessRefused}
+use Rattle.envelope.specs.Refusals.{firstHolding, unlessRefused}
 use Rattle.announcement.specs.declared.References.{References}
 use Rattle.announcement.specs.declared.Announcement.{Announcement}
 use Rattle.announcement.specs.Announcement.{datesOrdered}
 use Rattle.rules.specs.Opening as rules
-use Rattle.rules.specs.Opening.{Admission, admitting, isDate, isTime, openingRefused, termsOf, noTerms}
+use Rattle.rules.specs.Opening.{Admission, nobody, isDate, isTime, badCodes, limitsMiscounted, limitTooLong, openingRefused, termsOf, noTerms}
 use Rattle.terms.specs.declared.Terms as declared
 use Rattle.terms.specs.declared.Opening.{Opening}
 use Rattle.terms.specs.declared.OpenAnswer.{OpenAnswer}
-use Rattle.terms.specs.declared.OpenAnswer.the-variants.{Opened, NotAnnouncement, OtherOrigin, Malformed, UnknownType, Impossible, Disordered, BadCodes}
+use Rattle.terms.specs.declared.OpenAnswer.the-variants.{Opened, NotAnnouncement, OtherOrigin, Malformed, UnknownType, Impossible, Disordered, BadCodes, LimitsMiscounted, LimitTooLong}
 
--- document 01's number for each answer
+-- the paper's number for each answer
 abbrev pub openRefusal : OpenAnswer → Option ℕ
 openRefusal Opened = none
 openRefusal NotAnnouncement = some 1
@@ -28,6 +28,8 @@ openRefusal UnknownType = some 4
 openRefusal Impossible = some 5
 openRefusal Disordered = some 6
 openRefusal BadCodes = some 7
+openRefusal LimitsMiscounted = some 19
+openRefusal LimitTooLong = some 20
 
 abbrev pub isOpened : OpenAnswer → Bool
 isOpened Opened = true
@@ -38,6 +40,8 @@ isOpened UnknownType = false
 isOpened Impossible = false
 isOpened Disordered = false
 isOpened BadCodes = false
+isOpened LimitsMiscounted = false
+isOpened LimitTooLong = false
 
 -- the terms of the code, with the admission that the book tells, as the terms of the rules
 abbrev pub viewed : declared.Terms → Admission → rules.Terms
@@ -62,7 +66,7 @@ unfoldable pub openingTerms : List ℕ → Admission → Option ℕ × rules.Ter
 openingTerms m a = (openingRefused m a, unlessRefused (openingRefused m a) noTerms (termsOf m a))
 
 unfoldable pub admittedUnless : List ℕ → Admission → Admission
-admittedUnless m a = unlessRefused (openingRefused m a) (admitting []) a
+admittedUnless m a = unlessRefused (openingRefused m a) nobody a
 
 -- what opening promises of an answer and terms
 abbrev pub OpensTerms : List ℕ → Admission → Opening → Type 0
@@ -83,3 +87,7 @@ datesInOrder a = datesOrdered (numberIn (a .references .date)) (a .characteristi
 unfoldable pub risesFrom : ℕ → List ℕ → Bool
 risesFrom least [] = true
 risesFrom least (c ∷ codes) = leb least c && leb c 99999 && risesFrom (c + 1) codes
+
+-- conditions 7, 19 and 20, which look at the admitted list alone
+unfoldable pub admissionRefused : Admission → Option ℕ
+admissionRefused a = firstHolding ((7, badCodes (a .codes)) ∷ (19, limitsMiscounted a) ∷ (20, limitTooLong (a .limits)) ∷ [])

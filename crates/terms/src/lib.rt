@@ -1,5 +1,5 @@
-// The terms of a tender: what opening refuses of an announcement and an admitted list, and what it
-// keeps of them.
+// The terms of a tender: what opening refuses of an announcement, an admitted list and its limits, and what
+// it keeps of the announcement.
 use announcement::Announcement;
 use announcement::Characteristics;
 use announcement::Field;
@@ -20,14 +20,13 @@ use places::Rate;
 use texts::same;
 ghost use mathlib.Core.Path.{_≡_};
 ghost use mathlib.Core.Bool.{true};
-ghost use mathlib.Core.List.{[]};
 ghost use Prim.Native.Nat.{_<_};
 ghost use lib.ListN.{length};
 ghost use Rattle.layout.specs.Fields.{readable};
 ghost use Rattle.envelope.specs.Refusals.{orZero};
 ghost use Rattle.announcement.specs.Announcement.{layout6G0, announcementOf, reading};
-ghost use Rattle.rules.specs.Opening.{Admission, admitting, isDate, isTime, wellFormed, otherOrigin, isUnknown, impossible, badCodes, openingRefused, sideOf, termsOf, noTerms};
-ghost use Rattle.terms.specs.Viewed.{referencesFormed, datesFormed, risesFrom, datesInOrder, openRefusal, isOpened, viewed, OpensTerms};
+ghost use Rattle.rules.specs.Opening.{Admission, admitting, nobody, isDate, isTime, wellFormed, otherOrigin, isUnknown, impossible, badCodes, limitTooLong, openingRefused, sideOf, termsOf, noTerms};
+ghost use Rattle.terms.specs.Viewed.{referencesFormed, datesFormed, risesFrom, datesInOrder, admissionRefused, openRefusal, isOpened, viewed, OpensTerms};
 
 // Why an opening is refused, or that it is not.
 pub enum OpenAnswer {
@@ -39,6 +38,8 @@ pub enum OpenAnswer {
     Impossible,
     Disordered,
     BadCodes,
+    LimitsMiscounted,
+    LimitTooLong,
 }
 
 // What a tender keeps of its announcement.
@@ -196,10 +197,39 @@ fn in_order(a: Announcement) -> bool
     )
 }
 
+// Whether a limit has over fifteen digits.
+fn limit_too_long(limits: &[u64]) -> bool
+    ensures { λ r. ⌜ r ≡ limitTooLong (now (limits .entry)) ⌝ }
+{
+    let mut found = false;
+    let mut i = 0;
+    while i < limits.len() {
+        found = found | (999_999_999_999_999 < limits[i]);
+        i += 1;
+    }
+    found
+}
+
+// The first condition that holds of an admitted list and its limits, or that none does.
+fn admission_refusal(codes: &[u32], limits: &[u64]) -> OpenAnswer
+    ensures { λ a. ⌜ openRefusal a ≡ admissionRefused (admitting (now (codes .entry)) (now (limits .entry))) ⌝ }
+{
+    if codes_bad(codes) {
+        return OpenAnswer::BadCodes;
+    }
+    if limits.len() != codes.len() {
+        return OpenAnswer::LimitsMiscounted;
+    }
+    if limit_too_long(limits) {
+        return OpenAnswer::LimitTooLong;
+    }
+    OpenAnswer::Opened
+}
+
 // The first condition of opening that holds, or that none does.
-fn refusal(m: &[u8], r: Reading, codes: &[u32]) -> OpenAnswer
+fn refusal(m: &[u8], r: Reading, codes: &[u32], limits: &[u64]) -> OpenAnswer
     requires { ⌜ (r .readable, r .announcement) ≡ reading (now m) ⌝ }
-    ensures { λ a. ⌜ openRefusal a ≡ openingRefused (now (m .entry)) (admitting (now (codes .entry))) ⌝ }
+    ensures { λ a. ⌜ openRefusal a ≡ openingRefused (now (m .entry)) (admitting (now (codes .entry)) (now (limits .entry))) ⌝ }
 {
     if !r.readable {
         return OpenAnswer::NotAnnouncement;
@@ -222,10 +252,7 @@ fn refusal(m: &[u8], r: Reading, codes: &[u32]) -> OpenAnswer
     if !in_order(a) {
         return OpenAnswer::Disordered;
     }
-    if codes_bad(codes) {
-        return OpenAnswer::BadCodes;
-    }
-    OpenAnswer::Opened
+    admission_refusal(codes, limits)
 }
 
 // A text of eleven bytes as an array.
@@ -275,7 +302,7 @@ fn terms_of(m: &[u8], a: Announcement) -> Terms
 
 // The terms of the tender that a refused opening gives back.
 pub fn no_terms() -> Terms
-    ensures { λ r. ⌜ viewed r (admitting []) ≡ noTerms ⌝ }
+    ensures { λ r. ⌜ viewed r nobody ≡ noTerms ⌝ }
 {
     Terms {
         identifier: [0; 11],
@@ -305,6 +332,8 @@ pub fn is_opened(a: OpenAnswer) -> bool
         OpenAnswer::Impossible => false,
         OpenAnswer::Disordered => false,
         OpenAnswer::BadCodes => false,
+        OpenAnswer::LimitsMiscounted => false,
+        OpenAnswer::LimitTooLong => false,
     }
 }
 
@@ -321,15 +350,17 @@ pub fn number_of_answer(a: OpenAnswer) -> u64
         OpenAnswer::Impossible => 5,
         OpenAnswer::Disordered => 6,
         OpenAnswer::BadCodes => 7,
+        OpenAnswer::LimitsMiscounted => 19,
+        OpenAnswer::LimitTooLong => 20,
     }
 }
 
 // Opens a tender: the terms of the announcement, or why it is refused and no terms.
-pub fn open(m: &[u8], codes: &[u32]) -> Opening
-    ensures { λ r. ⌜ OpensTerms (now (m .entry)) (admitting (now (codes .entry))) r ⌝ }
+pub fn open(m: &[u8], codes: &[u32], limits: &[u64]) -> Opening
+    ensures { λ r. ⌜ OpensTerms (now (m .entry)) (admitting (now (codes .entry)) (now (limits .entry))) r ⌝ }
 {
     let r = read(m);
-    let answer = refusal(m, r, codes);
+    let answer = refusal(m, r, codes, limits);
     if is_opened(answer) {
         let a = r.announcement;
         Opening {

@@ -2,6 +2,7 @@
 
 pub mod book;
 pub mod comparison;
+pub mod cuts;
 #[cfg(test)]
 mod drawn;
 #[cfg(test)]
@@ -10,6 +11,7 @@ pub mod generate;
 pub mod independent_book;
 pub mod layout;
 pub mod library_book;
+pub mod limits;
 pub mod look;
 pub mod padded;
 pub mod reduce;
@@ -49,7 +51,7 @@ mod tests {
         for seed in DEFAULT_SEED..DEFAULT_SEED + DEFAULT_COUNT / 10 {
             drawn.count(&generate::sequence(seed));
         }
-        assert_eq!(drawn.counts.len(), 36, "each boundary was looked for: {:?}", drawn.counts);
+        assert_eq!(drawn.counts.len(), 45, "each boundary was looked for: {:?}", drawn.counts);
         assert!(drawn.counts.values().all(|&count| count >= 20), "{:?}", drawn.counts);
     }
 
@@ -88,6 +90,11 @@ mod tests {
             steps_for::<10>(),
             steps_for::<11>(),
             steps_for::<12>(),
+            steps_for::<13>(),
+            steps_for::<14>(),
+            steps_for::<15>(),
+            steps_for::<16>(),
+            steps_for::<17>(),
         ];
         assert_eq!(steps.len(), FAULTS.len());
         assert!(steps.iter().all(|&steps| steps <= 5), "{steps:?}");

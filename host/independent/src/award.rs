@@ -45,7 +45,7 @@ pub struct Offer {
 }
 
 /// A bid with its position in book order.
-#[derive(Clone, Copy, Debug)]
+#[derive(Clone, Copy, Debug, PartialEq, Eq)]
 pub struct PlacedBid {
     pub position: usize,
     pub bid: Bid,
@@ -62,6 +62,11 @@ pub struct Allotment {
 }
 
 impl Offer {
+    /// Which of two bids comes first: the better rate, and of equal rates the first place.
+    pub fn order(&self, a: &PlacedBid, b: &PlacedBid) -> Ordering {
+        self.best_first(a.bid.rate, b.bid.rate).then(a.position.cmp(&b.position))
+    }
+
     fn best_first(&self, a: Rate, b: Rate) -> Ordering {
         match self.side {
             Side::Collects => a.cmp(&b),
@@ -77,9 +82,7 @@ impl Offer {
     /// Awards the offer to the filled bids and orders them best first.
     pub fn allot(&self, bids: &mut Vec<PlacedBid>) -> Allotment {
         bids.retain(|placed| self.is_in(placed.bid.rate));
-        bids.sort_unstable_by(|a, b| {
-            self.best_first(a.bid.rate, b.bid.rate).then(a.position.cmp(&b.position))
-        });
+        bids.sort_unstable_by(|a, b| self.order(a, b));
         let mut allotment = Allotment { awards: [Amount(0); POSITIONS], marginal_rate: None };
         let mut left = u128::from(self.amount.0);
         for at_rate in bids.chunk_by(|a, b| a.bid.rate == b.bid.rate) {

@@ -1,5 +1,6 @@
-//! The OPTES tender book and its session log, written from document 01, request S-1 of document 02 and
-//! the reading of their open points in docs/DECISIONS.md, without a look at the Rattle sources.
+//! The OPTES tender book and its session log, written from document 01, requests S-1 and S-2 of
+//! document 02 and the reading of their open points in docs/DECISIONS.md, without a look at the Rattle
+//! sources.
 //!
 //! It shares no line with the proved crates, so that the two can be compared. `tender` has the
 //! calls of a tender, from opening to allotting, `session` logs whole sessions by them,
@@ -13,6 +14,7 @@ pub mod application;
 pub mod award;
 pub mod calendar;
 pub mod compose;
+pub mod credit;
 pub mod digits;
 pub mod envelope;
 pub mod errors;

@@ -1,6 +1,6 @@
 //! The conditions under which a call is refused.
 
-/// A refusal, with document 01's number as its value.
+/// A refusal, with its number in document 01 or 02 as its value.
 #[derive(Clone, Copy, Debug, PartialEq, Eq, PartialOrd, Ord)]
 pub enum Refusal {
     NotAnnouncement = 1,
@@ -21,10 +21,12 @@ pub enum Refusal {
     BidsExceed = 16,
     Unfit = 17,
     OutputShort = 18,
+    LimitsMiscounted = 19,
+    LimitTooLong = 20,
 }
 
 impl Refusal {
-    /// Document 01's number of the refusal.
+    /// The number of the refusal.
     pub fn number(self) -> u64 {
         self as u64
     }

@@ -58,7 +58,8 @@ impl Journal {
     }
 
     fn announce(&mut self, contents: &[u8], lines: &mut Vec<u8>) {
-        match Tender::open(contents, &self.codes) {
+        // A log has no credit limits.
+        match Tender::open(contents, &self.codes, &vec![0; self.codes.len()]) {
             Ok(tender) => self.tender = Some(tender),
             Err(refusal) => push_refusal(lines, refusal),
         }

@@ -3,8 +3,9 @@
 use crate::address::{self, Address};
 use crate::announcement::Terms;
 use crate::application::{Application, Field, PLACES};
-use crate::award::{Allotment, Bid, PlacedBid, POSITIONS};
+use crate::award::{Allotment, Amount, Bid, PlacedBid, POSITIONS};
 use crate::calendar::{Moment, Time};
+use crate::credit;
 use crate::errors::{ApplicationError as E, Errors};
 use crate::refusal::Refusal;
 use crate::reply;
@@ -13,6 +14,8 @@ use crate::rules;
 /// The most counterparties that are admitted.
 pub const MOST_CODES: usize = POSITIONS / PLACES;
 const MOST_CENTS: u128 = 999_999_999_999_999_999;
+/// The highest number of fifteen digits.
+const MOST_LIMIT: u64 = 999_999_999_999_999;
 
 /// Where a tender stands.
 #[derive(Clone, Copy, Debug, PartialEq, Eq)]
@@ -27,6 +30,8 @@ pub enum State {
 #[derive(Clone, Debug, PartialEq, Eq)]
 pub struct Holding {
     pub code: u32,
+    /// The most that may be lent to it, or none where it is not capped.
+    pub cap: Option<Amount>,
     pub time: Option<Time>,
     pub bids: [Bid; PLACES],
 }
@@ -66,13 +71,28 @@ fn are_admissible(codes: &[u32]) -> bool {
         && codes.iter().all(|&code| code <= 99_999)
 }
 
+impl Holding {
+    fn empty(code: u32, limit: u64) -> Holding {
+        let cap = (limit > 0).then_some(Amount(limit));
+        Holding { code, cap, time: None, bids: [Bid::ZERO; PLACES] }
+    }
+
+    /// The filled bids, with their positions in a book where this is the holding of this rank.
+    pub fn placed(&self, rank: usize) -> impl Iterator<Item = PlacedBid> + '_ {
+        let filled = self.bids.iter().enumerate().filter(|(_, bid)| bid.is_filled());
+        filled.map(move |(place, &bid)| PlacedBid { position: rank * PLACES + place, bid })
+    }
+}
+
 impl Tender {
-    /// Opens a tender for an announcement and the admitted codes.
-    pub fn open(announcement: &[u8], codes: &[u32]) -> Result<Tender, Refusal> {
+    /// Opens a tender for an announcement, the admitted codes and their credit limits, zero for none.
+    pub fn open(announcement: &[u8], codes: &[u32], limits: &[u64]) -> Result<Tender, Refusal> {
         let terms = Terms::read(announcement)?;
         Refusal::BadCodes.if_so(!are_admissible(codes))?;
-        let empty = |&code| Holding { code, time: None, bids: [Bid::ZERO; PLACES] };
-        Ok(Tender { terms, state: State::Open, book: codes.iter().map(empty).collect() })
+        Refusal::LimitsMiscounted.if_so(limits.len() != codes.len())?;
+        Refusal::LimitTooLong.if_so(limits.iter().any(|&limit| limit > MOST_LIMIT))?;
+        let book = codes.iter().zip(limits).map(|(&code, &limit)| Holding::empty(code, limit));
+        Ok(Tender { terms, state: State::Open, book: book.collect() })
     }
 
     fn open_at(&self, clock: Option<Moment>) -> Result<Moment, Refusal> {
@@ -115,7 +135,8 @@ impl Tender {
             let holding = &mut self.book[position];
             // None is before every time.
             if time > holding.time {
-                *holding = Holding { code: holding.code, time, bids };
+                holding.time = time;
+                holding.bids = bids;
             } else {
                 errors.add_if(E::Superseded, true);
             }
@@ -165,20 +186,26 @@ impl Tender {
         Refusal::Revoked.if_so(self.state == State::Revoked)?;
         Refusal::StillOpen.if_so(self.state == State::Open)?;
         Refusal::Announced.if_so(self.state == State::Announced)?;
-        let mut bids = self.bids();
-        let total: u128 = bids.iter().map(|placed| u128::from(placed.bid.amount.0)).sum();
-        Refusal::BidsExceed.if_so(total > MOST_CENTS)?;
+        Refusal::BidsExceed.if_so(self.total() > MOST_CENTS)?;
         self.state = State::Announced;
-        Ok(self.terms.offer.allot(&mut bids))
+        Ok(self.terms.offer.allot(&mut self.cut_bids()))
     }
 
-    /// The bids of the book, in its order.
-    fn bids(&self) -> Vec<PlacedBid> {
+    /// The total of the bids in the book, before any cut.
+    fn total(&self) -> u128 {
+        let bids = self.book.iter().flat_map(|holding| &holding.bids);
+        bids.map(|bid| u128::from(bid.amount.0)).sum()
+    }
+
+    /// The bids of the book as the credit limits leave them.
+    pub fn cut_bids(&self) -> Vec<PlacedBid> {
         let mut bids = Vec::with_capacity(self.book.len() * PLACES);
         for (rank, holding) in self.book.iter().enumerate() {
-            for (place, &bid) in holding.bids.iter().enumerate() {
-                if bid.is_filled() {
-                    bids.push(PlacedBid { position: rank * PLACES + place, bid });
+            match holding.cap {
+                None => bids.extend(holding.placed(rank)),
+                Some(cap) => {
+                    let own = holding.placed(rank).collect();
+                    bids.extend(credit::cut(&self.terms.offer, own, cap));
                 }
             }
         }

@@ -38,7 +38,8 @@ fn with(field: Field, bytes: &[u8; 14]) -> Vec<u8> {
 }
 
 fn tender() -> Tender {
-    Tender::open(&Announcement::worked().write(), &[90001, 90002]).expect("the tender opens")
+    let announcement = Announcement::worked().write();
+    Tender::open(&announcement, &[90001, 90002], &[0; 2]).expect("the tender opens")
 }
 
 /// The codes of the errors and the reply that a message gets.
@@ -274,9 +275,9 @@ fn r01_an_announcement_stays_at_five() {
         let mut message = worked.clone();
         message[head + 2] = 14;
         message.splice(head + 3..head + 8, *address);
-        Tender::open(&message, &[90001]).err()
+        Tender::open(&message, &[90001], &[0]).err()
     };
-    assert_eq!(Tender::open(&worked, &[90001]).err(), None);
+    assert_eq!(Tender::open(&worked, &[90001], &[0]).err(), None);
     assert_eq!(long(6, b"01000/12345/AB"), Some(Refusal::NotAnnouncement));
     assert_eq!(long(14, b"90001/12345/AB"), Some(Refusal::NotAnnouncement));
 }

@@ -14,7 +14,8 @@ const BID: (u64, u64) = (150_000, 20_000);
 const MARK: u8 = 0xa5;
 
 fn opened(announcement: &Announcement) -> Tender {
-    Tender::open(&announcement.write(), &[90001, 90002, 90003]).expect("the tender opens")
+    let codes = [90001, 90002, 90003];
+    Tender::open(&announcement.write(), &codes, &[0; 3]).expect("the tender opens")
 }
 
 fn worked() -> Tender {

@@ -5,10 +5,11 @@ use mathlib.Core.Bool.{Bool, _||_}
 use Prim.Native.Nat.{_+_, _-_, _≤_}
 use native.Mathlib.Omega.{arith}
 use lib.ListN.{length, drop}
+use Rattle.rules.specs.Allotment.{noBid}
 use Rattle.rules.specs.Opening.{any}
+use Rattle.rules.proofs.Any.{any-more, any-end}
 use Rattle.bids.specs.Columns.{faulty, bidsFrom}
 use Rattle.bids.proofs.Columns.{ten-bids, bid-is}
-use Rattle.bids.proofs.Loops.{any-more, any-end}
 use Rattle.bids.proofs.any_with.Statement.{statement}
 use Rattle.bids.proofs.any_with.Tie as tie
 
@@ -50,7 +51,7 @@ loop-again c =
     let bs = bidsFrom (a .t1) (a .t2) 0 10 in
     let p = faulty (a .fault) (a .minimum .0) (a .increment .0) in
     let e = c .has-fault .ensures ∙ ap p (sym (bid-is (a .t1) (a .t2) 10 (l .k) (omega arith))) in
-    (omega arith, ap (λ (t : Bool). (l .found || t) || any p (drop (l .k + 1) bs)) e ∙ any-more p (l .found) bs (l .k) (omega (arith, ten-bids (start .args .t1) (start .args .t2))) ∙ l .inv .1)
+    (omega arith, ap (λ (t : Bool). (l .found || t) || any p (drop (l .k + 1) bs)) e ∙ any-more p (l .found) bs (l .k) noBid (omega (arith, ten-bids (start .args .t1) (start .args .t2))) ∙ l .inv .1)
 
 returns : tie.Need-returns Inv-loop μ-loop
 returns c =

@@ -5,6 +5,7 @@ use native.Mathlib.Omega.{arith}
 use denote.Ref.{now}
 use lib.Dec.{eqb, ltb}
 use lib.ListN.{getD}
+use Rattle.buffer.specs.Words.{formNumber}
 use Rattle.buffer.proofs.Words.{known}
 use Rattle.buffer_questions.proofs.Tender.{no-tender, tests-left}
 use borrow.Author.Needs.{needs}
@@ -44,7 +45,7 @@ codes-rise-requires c κs = search needs
 returns-4 : tie.Need-returns-4
 returns-4 c =
     let ws = now (c .before .before .before .before .before .before .before .before .before .args .words) in
-    ap (λ (t : Bool). eqb (getD ws 0 0) 1 && ltb (getD ws 1 0) 4 && t) (c .codes-rise .ensures) ∙ tests-left ws (omega arith) (omega arith) (omega arith)
+    ap (λ (t : Bool). eqb (getD ws 0 0) formNumber && ltb (getD ws 1 0) 4 && t) (c .codes-rise .ensures) ∙ tests-left ws (omega arith) (omega arith) (omega arith)
 
 pub is-tender-spec : {M : Type 1} → statement M
 is-tender-spec =

@@ -7,7 +7,7 @@ use denote.Ref.{now}
 use borrow.Author.Tests.{not-true, not-false}
 use Rattle.numbers.specs.Numbers.{inArray}
 use Rattle.buffer.specs.Words.{tenderIn, isTender}
-use Rattle.buffer_questions.specs.Told.{codesNumbers}
+use Rattle.buffer_questions.specs.Told.{countedNumbers}
 use Rattle.optes_book.proofs.Calls.{told-not, told-all}
 use borrow.Author.Needs.{needs}
 use Rattle.optes_book.proofs.optes_words_codes.Statement.{statement}
@@ -19,7 +19,7 @@ is-tender-requires c κs = search needs
 returns : tie.Need-returns
 returns c =
     let a = c .before .before .before .before .args in
-    told-not (now (a .words)) {A = ℕ × List ℕ} (0, inArray (codesNumbers (tenderIn (now (a .words)) .terms .admission .codes)) (now (a .told))) (100, now (a .told)) (sym (c .before .is-tender .ensures) ∙ not-true _ (c .if1 .taken))
+    told-not (now (a .words)) {A = ℕ × List ℕ} (0, inArray (countedNumbers (tenderIn (now (a .words)) .terms .admission .codes)) (now (a .told))) (100, now (a .told)) (sym (c .before .is-tender .ensures) ∙ not-true _ (c .if1 .taken))
 
 -- the words hold a tender
 given : (c : tie.Else1) → isTender (now (c .before .before .before .before .args .words)) ≡ true
@@ -36,7 +36,7 @@ returns-2 c =
     let t = c .before .before in
     let l = t .before .before in
     let a = l .before .before .before .before .args in
-    (λ i. (0, t .tell-codes .ensures i)) ∙ told-all (now (a .words)) {A = ℕ × List ℕ} (0, inArray (codesNumbers (tenderIn (now (a .words)) .terms .admission .codes)) (now (a .told))) (100, now (a .told)) (given l)
+    (λ i. (0, t .tell-codes .ensures i)) ∙ told-all (now (a .words)) {A = ℕ × List ℕ} (0, inArray (countedNumbers (tenderIn (now (a .words)) .terms .admission .codes)) (now (a .told))) (100, now (a .told)) (given l)
 
 pub optes-words-codes-spec : {M : Type 1} → statement M
 optes-words-codes-spec =

@@ -9,8 +9,8 @@ use Rattle.optes_book.proofs.optes_words_open.Tie as tie
 
 returns : tie.Need-returns
 returns c =
-    let a = c .before .before .before .before .args in
-    opens-short (now (a .words)) (now (a .m)) (admitting (now (a .codes))) (lt-leb _ _ (c .if1 .taken))
+    let a = c .before .before .before .before .before .args in
+    opens-short (now (a .words)) (now (a .m)) (admitting (now (a .codes)) (now (a .limits))) (lt-leb _ _ (c .if1 .taken))
 
 open-in-requires : tie.Need-open-in-requires
 open-in-requires c κs = search needs
@@ -25,8 +25,8 @@ returns-2 : tie.Need-returns-2
 returns-2 c =
     let o = c .before .before .before in
     let l = o .before .before in
-    let a = l .before .before .before .before .args in
-    opens-in (now (a .words)) (now (a .m)) (admitting (now (a .codes))) (le-leb _ _ (l .if1 .left)) (o .open-in .result) (c .number-of-answer .result) _ (o .open-in .ensures) (c .number-of-answer .ensures)
+    let a = l .before .before .before .before .before .args in
+    opens-in (now (a .words)) (now (a .m)) (admitting (now (a .codes)) (now (a .limits))) (le-leb _ _ (l .if1 .left)) (o .open-in .result) (c .number-of-answer .result) _ (o .open-in .ensures) (c .number-of-answer .ensures)
 
 pub optes-words-open-spec : {M : Type 1} → statement M
 optes-words-open-spec =

@@ -35,6 +35,9 @@ part-open-in-start c = search needs
 part-open-in-end : tie.Need-part-open-in-end Inv-loop μ-loop
 part-open-in-end c = search needs
 
+slice-aggregate-open-in-3 : tie.Need-slice-aggregate-open-in-3 Inv-loop μ-loop
+slice-aggregate-open-in-3 c = search needs
+
 open-in-requires : tie.Need-open-in-requires Inv-loop μ-loop
 open-in-requires c κs = search needs
 
@@ -83,6 +86,7 @@ log-all-spec =
     sub-open-in
     part-open-in-start
     part-open-in-end
+    slice-aggregate-open-in-3
     open-in-requires
     standing-at-start-requires
     loop-holds

@@ -11,7 +11,7 @@ use Rattle.terms.proofs.Forming.{read-readable, read-announcement, open
 use Rattle.terms.proofs.open.Statement.{statement}
 use Rattle.terms.proofs.open.Tie as tie
 
-accepted : (c : tie.Then1) → openingRefused (now (c .before .before .before .before .before .before .args .m)) (admitting (now (c .before .before .before .before .before .before .args .codes))) ≡ none
+accepted : (c : tie.Then1) → openingRefused (now (c .before .before .before .before .before .before .before .args .m)) (admitting (now (c .before .before .before .before .before .before .before .args .codes)) (now (c .before .before .before .before .before .before .before .args .limits))) ≡ none
 accepted c = sym (c .before .before .refusal .ensures) ∙ opened-none (c .before .before .refusal .result) (sym (c .before .is-opened .ensures) ∙ c .if1 .taken)
 
 read-requires : tie.Need-read-requires
@@ -25,9 +25,9 @@ is-opened-requires c κs = search needs
 
 terms-of-requires : tie.Need-terms-of-requires
 terms-of-requires c κs =
-    let a = c .before .before .before .before .before .before .before .args in
+    let a = c .before .before .before .before .before .before .before .before .args in
     let r = c .before .before .before .before .read in
-    let h = opened-readable (now (a .m)) (admitting (now (a .codes))) (accepted (c .before)) in
+    let h = opened-readable (now (a .m)) (admitting (now (a .codes)) (now (a .limits))) (accepted (c .before)) in
     let t = sym (read-readable (now (a .m)) (r .result .readable) (r .result .announcement) (r .ensures)) ∙ h in
     (h, read-announcement (now (a .m)) (r .result .announcement) (ap (λ (x : Bool). (x, r .result .announcement)) (sym t) ∙ r .ensures))
 
@@ -37,17 +37,17 @@ no-terms-requires c κs = search needs
 returns : tie.Need-returns
 unfolding openingTerms admittedUnless
 returns c =
-    let a = c .before .before .before .before .before .before .before .before .args in
+    let a = c .before .before .before .before .before .before .before .before .before .args in
     let h = accepted (c .before .before) in
-    rw h (ap₂ (λ (o : Option ℕ) (t : Terms). (o, t)) (c .before .before .before .before .refusal .ensures ∙ h) (c .terms-of .ensures (admitting (now (a .codes)))))
+    rw h (ap₂ (λ (o : Option ℕ) (t : Terms). (o, t)) (c .before .before .before .before .refusal .ensures ∙ h) (c .terms-of .ensures (admitting (now (a .codes)) (now (a .limits)))))
 
 returns-2 : tie.Need-returns-2
 unfolding openingTerms admittedUnless
 returns-2 c =
-    let a = c .before .before .before .before .before .before .before .args in
+    let a = c .before .before .before .before .before .before .before .before .args in
     let r = c .before .before .before .refusal in
     let s = refused-some (r .result) (sym (c .before .before .is-opened .ensures) ∙ c .before .if1 .left) in
-    let h : openingRefused (now (a .m)) (admitting (now (a .codes))) ≡ some (s .0) = sym (r .ensures) ∙ s .1 in
+    let h : openingRefused (now (a .m)) (admitting (now (a .codes)) (now (a .limits))) ≡ some (s .0) = sym (r .ensures) ∙ s .1 in
     rw h (ap₂ (λ (o : Option ℕ) (t : Terms). (o, t)) (s .1) (c .no-terms .ensures))
 
 pub open-spec : {M : Type 1} → statement M

@@ -1,7 +1,7 @@
 //! The calls of a tender that lives in words, which the library and the independent one both have.
 
 /// The least words that hold a tender.
-pub const WORDS: usize = 1496;
+pub const WORDS: usize = 1560;
 /// How many awards there are.
 pub const PLACES: usize = 640;
 
@@ -14,11 +14,12 @@ pub const ANSWER_NUMBERS: usize = 18;
 pub const ALLOTMENT_NUMBERS: usize = 2;
 pub const TERMS_NUMBERS: usize = 21;
 pub const CODES_NUMBERS: usize = 65;
+pub const LIMITS_NUMBERS: usize = 65;
 pub const HELD_NUMBERS: usize = 23;
 
 /// The calls; each gives 0, the number of a refusal, or 100, and `state` gives the state or 100.
 pub trait Book {
-    fn open(words: &mut [u64], message: &[u8], codes: &[u32]) -> u64;
+    fn open(words: &mut [u64], message: &[u8], codes: &[u32], limits: &[u64]) -> u64;
     fn receive(
         words: &mut [u64],
         message: &[u8],
@@ -32,5 +33,6 @@ pub trait Book {
     fn state(words: &[u64]) -> u64;
     fn terms(words: &[u64], told: &mut [u64]) -> u64;
     fn codes(words: &[u64], told: &mut [u64]) -> u64;
+    fn limits(words: &[u64], told: &mut [u64]) -> u64;
     fn held(words: &[u64], code: u64, told: &mut [u64]) -> u64;
 }

@@ -3,13 +3,14 @@
 use crate::addresses::shown::long_addresses;
 use crate::calls::book::WORDS;
 use crate::calls::independent_book::IndependentBook;
-use crate::calls::layout::{self, AMOUNTS, CODES, COUNT, FORM, STATE};
+use crate::calls::layout::{self, AMOUNTS, CODES, COUNT, FORM, LIMITS, STATE};
 use crate::calls::padded;
 use crate::calls::step::{Call, Given, Step};
 use crate::sessions::days::{day_after, day_before, seconds_away};
+use crate::sessions::plan::MOST_AMOUNT;
 use independent::application::Application;
 use independent::award::{Side, POSITIONS};
-use independent::tender::{State, Tender};
+use independent::tender::{State, Tender, MOST_CODES};
 use std::collections::BTreeMap;
 
 /// How often each boundary was drawn.
@@ -41,7 +42,7 @@ impl Drawn {
         }
     }
 
-    /// Counts arrays, words, damage and announcements with long addresses.
+    /// Counts arrays, words, damage, limits and announcements with long addresses.
     fn count_lent(&mut self, step: &Step) {
         let set = |first: usize, last: usize| {
             step.sets.iter().any(|&(word, _)| (first..=last).contains(&word))
@@ -58,8 +59,25 @@ impl Drawn {
         self.add("another count", set(COUNT, COUNT));
         self.add("codes that do not rise", set(CODES, CODES + 63));
         self.add("amounts in the words", set(AMOUNTS, AMOUNTS + POSITIONS - 1));
+        self.add("limits in the words", set(LIMITS, LIMITS + MOST_CODES - 1));
+        self.count_limits(&step.call);
         self.add("an array that is short", step.numbers < step.call.told());
         self.add("an array that is long", step.numbers > step.call.told());
+    }
+
+    /// Counts the limits of an opening.
+    fn count_limits(&mut self, call: &Call) {
+        let Call::Open { codes, limits, .. } = call else { return };
+        let (is_even, is_wide) =
+            (limits.len() == codes.len(), limits.iter().any(|&limit| limit > MOST_AMOUNT));
+        self.add("too few limits", limits.len() < codes.len());
+        self.add("too many limits", limits.len() > codes.len());
+        self.add("limits miscounted and too wide", !is_even && is_wide);
+        self.add("a limit too wide", is_even && is_wide);
+        self.add("a limit as wide as can be", is_even && limits.contains(&MOST_AMOUNT));
+        self.add("nobody capped", is_even && limits.iter().all(|&limit| limit == 0));
+        self.add("everybody capped", is_even && limits.iter().all(|&limit| limit > 0));
+        self.add("64 limits", is_even && limits.len() == MOST_CODES);
     }
 
     fn count_call(&mut self, step: &Step, tender: &Tender, given: &Given) {

@@ -2,13 +2,14 @@
 
 use crate::calls::book::{Book, NO_TENDER, OK, WORDS};
 use crate::calls::independent_book::IndependentBook as Right;
-use crate::calls::layout::{self, STATE};
+use crate::calls::layout::{self, LIMITS, STATE};
 use crate::calls::script::parted::Parted;
 use independent::address::{first_five, Address};
 use independent::application::{Application, Field};
+use independent::award::Side;
 
 /// The faults, by their numbers.
-pub const FAULTS: [&str; 13] = [
+pub const FAULTS: [&str; 18] = [
     "a byte of a confirmation is wrong",
     "a byte past a reply changes",
     "the time of an application with an error is held",
@@ -22,6 +23,11 @@ pub const FAULTS: [&str; 13] = [
     "a long sender is answered as a short one",
     "a malformed recipient is an error",
     "a reply space of 418 bytes is enough",
+    "the limits cut nothing",
+    "the awards are cut and not the bids",
+    "20 comes before 19",
+    "a limit of fifteen nines is refused",
+    "the limits are told of other codes",
 ];
 
 /// A book with the fault of this number.
@@ -69,9 +75,50 @@ fn move_cent(awards: &mut [u64]) {
     }
 }
 
+/// Allots as if nobody were capped.
+fn allot_uncapped(words: &mut [u64], awards: &mut [u64], told: &mut [u64]) -> u64 {
+    let mut uncapped = words.to_vec();
+    uncapped.iter_mut().skip(LIMITS).take(64).for_each(|limit| *limit = 0);
+    let result = Right::allot(&mut uncapped, awards, told);
+    if result == OK {
+        words[STATE] = uncapped[STATE];
+    }
+    result
+}
+
+/// Cuts the awards of each code, in the order of its places, so that they stay within its limit. In LA
+/// they stay.
+fn cut_awards(words: &[u64], awards: &mut [u64]) {
+    let side = layout::tender_of(words).map(|tender| tender.terms.offer.side);
+    if side != Some(Side::Invests) {
+        return;
+    }
+    for (own, &limit) in awards.chunks_mut(10).zip(&words[LIMITS..WORDS]) {
+        let mut left = if limit == 0 { u64::MAX } else { limit };
+        for award in own {
+            *award = left.min(*award);
+            left -= *award;
+        }
+    }
+}
+
+/// What an opening that is refused with 19 or 20 gives by a book with the fault.
+fn refused<const FAULT: usize>(result: u64, limits: &[u64]) -> u64 {
+    let most = 999_999_999_999_999;
+    match FAULT {
+        15 if result == 19 && limits.iter().any(|&limit| limit > most) => 20,
+        16 if result == OK && limits.contains(&most) => 20,
+        _ => result,
+    }
+}
+
 impl<const FAULT: usize> Book for Faulty<FAULT> {
-    fn open(words: &mut [u64], message: &[u8], codes: &[u32]) -> u64 {
-        let result = Right::open(words, message, codes);
+    fn open(words: &mut [u64], message: &[u8], codes: &[u32], limits: &[u64]) -> u64 {
+        let before = words.to_vec();
+        let result = refused::<FAULT>(Right::open(words, message, codes, limits), limits);
+        if result != OK {
+            words.copy_from_slice(&before);
+        }
         if FAULT == 8 && words.len() > WORDS && result == OK {
             words[WORDS] = 0;
         }
@@ -113,8 +160,11 @@ impl<const FAULT: usize> Book for Faulty<FAULT> {
     }
 
     fn allot(words: &mut [u64], awards: &mut [u64], told: &mut [u64]) -> u64 {
-        let result = Right::allot(words, awards, told);
+        let is_uncapped = FAULT == 13 || FAULT == 14;
+        let allot = if is_uncapped { allot_uncapped } else { Right::allot };
+        let result = allot(words, awards, told);
         match FAULT {
+            14 if result == OK => cut_awards(words, awards),
             3 if result == OK => move_cent(awards),
             4 if result == OK && told.len() > 1 => told[0] = 1,
             _ => (),
@@ -139,6 +189,14 @@ impl<const FAULT: usize> Book for Faulty<FAULT> {
 
     fn codes(words: &[u64], told: &mut [u64]) -> u64 {
         Right::codes(words, told)
+    }
+
+    fn limits(words: &[u64], told: &mut [u64]) -> u64 {
+        let result = Right::limits(words, told);
+        if FAULT == 17 && result == OK && told.len() > 2 {
+            told.swap(1, 2);
+        }
+        result
     }
 
     fn held(words: &[u64], code: u64, told: &mut [u64]) -> u64 {

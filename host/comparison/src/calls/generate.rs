@@ -1,6 +1,7 @@
 //! Sequences of calls that aim at the boundaries of document 01's rules.
 
 use crate::calls::layout::AMOUNTS;
+use crate::calls::limits;
 use crate::calls::step::{Call, Step};
 use crate::calls::twist;
 use crate::random::Random;
@@ -54,8 +55,8 @@ impl Sequence<'_> {
         if let Some(damaged) = twist::damage(self.random, &step, &self.codes) {
             self.steps.push(damaged);
         }
-        if let Call::Open { codes, message } = &step.call {
-            if Tender::open(message, codes).is_ok() {
+        if let Call::Open { codes, limits, message } = &step.call {
+            if Tender::open(message, codes, limits).is_ok() {
                 self.codes.clone_from(codes);
             }
         }
@@ -63,9 +64,13 @@ impl Sequence<'_> {
     }
 
     fn push_tender(&mut self) {
-        let plan = plan(self.random);
+        let mut plan = plan(self.random);
         let codes: Vec<u32> = plan.codes.iter().map(|&code| code as u32).collect();
-        self.push_opening(&plan, &codes);
+        let limits = limits::limits(self.random, &plan);
+        if self.random.one_in(2) {
+            limits::aim(self.random, &mut plan, &limits);
+        }
+        self.push_opening(&plan, &codes, &limits);
         let between = 8 + 2 * plan.applications.len() as u64;
         for planned in &plan.applications {
             self.push_reception(&plan.announcement, planned);
@@ -77,17 +82,26 @@ impl Sequence<'_> {
     }
 
     /// Opens the tender, sometimes after openings that are refused.
-    fn push_opening(&mut self, plan: &Plan, codes: &[u32]) {
+    fn push_opening(&mut self, plan: &Plan, codes: &[u32], limits: &[u64]) {
+        let opening = |codes: &[u32], limits: &[u64], message: &[u8]| Call::Open {
+            codes: codes.to_vec(),
+            limits: limits.to_vec(),
+            message: message.to_vec(),
+        };
         for _ in 0..self.random.pick(&[0, 0, 1, 2]) {
             let message = announced(self.random, &plan.announcement);
-            self.push(Call::Open { codes: codes.to_vec(), message });
+            self.push(opening(codes, limits, &message));
         }
         let message = plan.announcement.write();
         if self.random.one_in(10) {
             let codes = twist::codes(self.random, codes);
-            self.push(Call::Open { codes, message: message.clone() });
+            self.push(opening(&codes, limits, &message));
         }
-        self.push(Call::Open { codes: codes.to_vec(), message });
+        if self.random.one_in(6) {
+            let limits = twist::limits(self.random, limits);
+            self.push(opening(codes, &limits, &message));
+        }
+        self.push(opening(codes, limits, &message));
     }
 
     fn clock(&mut self, announcement: &Announcement) -> (u64, u64) {
@@ -126,6 +140,9 @@ impl Sequence<'_> {
         if self.random.one_in(8) {
             self.push_full_book(codes);
         }
+        if self.random.one_in(8) {
+            self.push_odd_limits(codes);
+        }
         let places = twist::places(self.random);
         self.push(Call::Allot { places });
         // An announced tender is asked again.
@@ -152,6 +169,18 @@ impl Sequence<'_> {
         let mut step = Step::new(Call::Allot { places: POSITIONS });
         let words = amounts.iter().enumerate();
         step.sets = words.map(|(place, &amount)| (AMOUNTS + place, amount)).collect();
+        if self.random.one_in(2) {
+            step.sets.extend(twist::limit_words(self.random, codes));
+        }
+        self.steps.push(step);
+    }
+
+    /// Asks or allots with limits in the words that no opening can bring there.
+    fn push_odd_limits(&mut self, codes: usize) {
+        let asks = self.random.one_in(2);
+        let mut step =
+            Step::new(if asks { Call::Limits } else { Call::Allot { places: POSITIONS } });
+        step.sets = twist::limit_words(self.random, codes);
         self.steps.push(step);
     }
 
@@ -160,7 +189,7 @@ impl Sequence<'_> {
         let clock = self.clock(announcement);
         let code = u64::from(self.codes.first().copied().unwrap_or(90_001));
         let codes = self.codes.clone();
-        let call = match self.random.below(16) {
+        let call = match self.random.below(17) {
             0..=2 => Call::Close { clock },
             3 | 4 => Call::Revoke,
             5..=7 => Call::Allot { places: twist::places(self.random) },
@@ -168,10 +197,11 @@ impl Sequence<'_> {
                 let message = vec![b'0'; self.random.pick(&[0, 1, 338, 339, 340, 348, 357, 678])];
                 Call::Receive { clock, message, space: twist::space(self.random) }
             }
-            9 => Call::Open { codes, message: Vec::new() },
+            9 => Call::Open { limits: vec![0; codes.len()], codes, message: Vec::new() },
             10 => Call::State,
             11 => Call::Terms,
             12 => Call::Codes,
+            13 => Call::Limits,
             _ => Call::Held { code: code + self.random.pick(&[0, 0, 1, 2, 1 << 32]) },
         };
         if call != Call::Revoke {

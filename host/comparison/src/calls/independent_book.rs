@@ -1,6 +1,8 @@
 //! The independent implementation's calls of a tender, on the same words.
 
-use crate::calls::book::{Book, ANSWER_NUMBERS, CODES_NUMBERS, HELD_NUMBERS, NO_TENDER, OK, WORDS};
+use crate::calls::book::{
+    Book, ANSWER_NUMBERS, CODES_NUMBERS, HELD_NUMBERS, LIMITS_NUMBERS, NO_TENDER, OK, WORDS,
+};
 use crate::calls::layout;
 use independent::award::Allotment;
 use independent::calendar::{Moment, Time};
@@ -71,6 +73,16 @@ pub fn codes_numbers(tender: &Tender) -> [u64; CODES_NUMBERS] {
     numbers
 }
 
+/// The numbers that tell the credit limits.
+pub fn limits_numbers(tender: &Tender) -> [u64; LIMITS_NUMBERS] {
+    let mut numbers = [0; LIMITS_NUMBERS];
+    numbers[0] = tender.book.len() as u64;
+    for (number, holding) in numbers[1..].iter_mut().zip(&tender.book) {
+        *number = layout::limit_number(holding);
+    }
+    numbers
+}
+
 /// The numbers that tell what is held for a code.
 pub fn held_numbers(tender: &Tender, code: u64) -> [u64; HELD_NUMBERS] {
     let mut numbers = [0; HELD_NUMBERS];
@@ -86,11 +98,11 @@ pub fn held_numbers(tender: &Tender, code: u64) -> [u64; HELD_NUMBERS] {
 }
 
 impl Book for IndependentBook {
-    fn open(words: &mut [u64], message: &[u8], codes: &[u32]) -> u64 {
+    fn open(words: &mut [u64], message: &[u8], codes: &[u32], limits: &[u64]) -> u64 {
         if words.len() < WORDS {
             return NO_TENDER;
         }
-        match Tender::open(message, codes) {
+        match Tender::open(message, codes, limits) {
             Ok(tender) => {
                 layout::put_opened(words, &tender);
                 OK
@@ -134,6 +146,10 @@ impl Book for IndependentBook {
 
     fn codes(words: &[u64], told: &mut [u64]) -> u64 {
         tell_of(words, told, codes_numbers)
+    }
+
+    fn limits(words: &[u64], told: &mut [u64]) -> u64 {
+        tell_of(words, told, limits_numbers)
     }
 
     fn held(words: &[u64], code: u64, told: &mut [u64]) -> u64 {

@@ -19,9 +19,10 @@ const TIMES: usize = 88;
 const FLAGS: usize = 152;
 const RATES: usize = 216;
 pub const AMOUNTS: usize = 856;
+pub const LIMITS: usize = 1496;
 
 /// The number of this layout.
-pub const THE_FORM: u64 = 1;
+pub const THE_FORM: u64 = 2;
 const STATES: [State; 4] = [State::Open, State::Closed, State::Announced, State::Revoked];
 
 /// The tender that the words hold, or none.
@@ -61,6 +62,7 @@ fn holding_of(words: &[u64; WORDS], position: usize) -> Holding {
     let first = PLACES * position;
     Holding {
         code: words[CODES + position] as u32,
+        cap: Some(Amount(words[LIMITS + position])).filter(|cap| cap.0 > 0),
         time: Time::of_number(words[TIMES + position]).filter(|_| has_time),
         bids: std::array::from_fn(|place| Bid {
             rate: Rate(words[RATES + first + place] as u32),
@@ -90,6 +92,11 @@ pub fn terms_numbers(terms: &Terms) -> [u64; 21] {
     numbers
 }
 
+/// The limit of a counterparty as it is told and as it stands in the words: zero for none.
+pub fn limit_number(holding: &Holding) -> u64 {
+    holding.cap.map_or(0, |cap| cap.0)
+}
+
 /// Sets all words to a tender that was opened.
 pub fn put_opened(words: &mut [u64], tender: &Tender) {
     words[..WORDS].fill(0);
@@ -98,6 +105,9 @@ pub fn put_opened(words: &mut [u64], tender: &Tender) {
     words[TERMS..CODES].copy_from_slice(&terms_numbers(&tender.terms));
     for (word, holding) in words[CODES..].iter_mut().zip(&tender.book) {
         *word = u64::from(holding.code);
+    }
+    for (word, holding) in words[LIMITS..].iter_mut().zip(&tender.book) {
+        *word = limit_number(holding);
     }
     put_changed(words, tender);
 }
@@ -129,6 +139,7 @@ pub fn name(index: isize) -> String {
         FORM => "the form".to_string(),
         STATE => "the state".to_string(),
         COUNT => "the number of codes".to_string(),
+        LIMITS.. => format!("the limit {}", of_code(LIMITS)),
         AMOUNTS.. => format!("the amount {}", of_place(AMOUNTS)),
         RATES.. => format!("the rate {}", of_place(RATES)),
         FLAGS.. => format!("whether a time is held {}", of_code(FLAGS)),

@@ -10,6 +10,7 @@ use crate::calls::book::Book;
 extern "C" {
     fn optes_words_open(
         words: *mut u64, count: usize, m: *const u8, n: usize, codes: *const u32, admitted: usize,
+        limits: *const u64, limited: usize,
     ) -> u64;
     fn optes_words_receive(
         words: *mut u64, count: usize, m: *const u8, n: usize, date: u64, time: u64,
@@ -28,6 +29,9 @@ extern "C" {
     fn optes_words_codes(
         words: *const u64, count: usize, told: *mut u64, numbers: usize,
     ) -> u64;
+    fn optes_words_limits(
+        words: *const u64, count: usize, told: *mut u64, numbers: usize,
+    ) -> u64;
     fn optes_words_held(
         words: *const u64, count: usize, code: u64, told: *mut u64, numbers: usize,
     ) -> u64;
@@ -38,11 +42,11 @@ pub struct LibraryBook;
 
 #[rustfmt::skip] // Each pointer stands beside its length.
 impl Book for LibraryBook {
-    fn open(words: &mut [u64], message: &[u8], codes: &[u32]) -> u64 {
+    fn open(words: &mut [u64], message: &[u8], codes: &[u32], limits: &[u64]) -> u64 {
         unsafe {
             optes_words_open(
                 words.as_mut_ptr(), words.len(), message.as_ptr(), message.len(),
-                codes.as_ptr(), codes.len(),
+                codes.as_ptr(), codes.len(), limits.as_ptr(), limits.len(),
             )
         }
     }
@@ -92,6 +96,12 @@ impl Book for LibraryBook {
     fn codes(words: &[u64], told: &mut [u64]) -> u64 {
         unsafe {
             optes_words_codes(words.as_ptr(), words.len(), told.as_mut_ptr(), told.len())
+        }
+    }
+
+    fn limits(words: &[u64], told: &mut [u64]) -> u64 {
+        unsafe {
+            optes_words_limits(words.as_ptr(), words.len(), told.as_mut_ptr(), told.len())
         }
     }
 

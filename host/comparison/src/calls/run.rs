@@ -1,6 +1,7 @@
 //! Makes calls on the library and on the independent implementation, and compares all that they do.
 
 use crate::calls::book::{Book, OK, WORDS};
+use crate::calls::cuts;
 use crate::calls::independent_book::IndependentBook;
 use crate::calls::layout;
 use crate::calls::look;
@@ -23,6 +24,8 @@ pub struct Seen {
     pub result: u64,
     /// The codes of the errors, as far as they were told.
     pub errors: Vec<u64>,
+    /// What the limits did, of an allotment.
+    pub cuts: Vec<&'static str>,
 }
 
 /// The step of a sequence at which the two differ.
@@ -67,7 +70,8 @@ impl Run {
         }
         look::compare::<L>(self.library.first(WORDS), self.expected.first(WORDS))?;
         same_words("after the call", &self.library, &self.expected)?;
-        Ok(Seen { result: expected.result, errors: errors_of(step, &expected) })
+        let cuts = cuts_of(step, &expected, lent.first(step.words));
+        Ok(Seen { result: expected.result, errors: errors_of(step, &expected), cuts })
     }
 }
 
@@ -96,6 +100,14 @@ fn same_elements<T: Copy + PartialEq + Debug>(
 fn same_words(when: &str, library: &Padded<u64>, expected: &Padded<u64>) -> Result<(), Difference> {
     let Some((index, own, others)) = library.differs(expected) else { return Ok(()) };
     same(own, others, || format!("word {index}, {}, {when}", layout::name(index)))
+}
+
+/// What the limits of the tender in the words did in an allotment.
+fn cuts_of(step: &Step, given: &Given, words: &[u64]) -> Vec<&'static str> {
+    if !matches!(step.call, Call::Allot { .. }) || given.result != OK {
+        return Vec::new();
+    }
+    layout::tender_of(words).map_or_else(Vec::new, |tender| cuts::shown(&tender))
 }
 
 fn errors_of(step: &Step, given: &Given) -> Vec<u64> {

@@ -3,6 +3,8 @@
 //! One step stands on a line; blank lines and lines that start with # are comments. The steps are
 //! near those of host/compose:
 //!   admit CODE ..                  the admitted codes of the openings that follow
+//!   limits AMOUNT ..               their credit limits, any numbers and any number of them; without
+//!                                  it, and after another admit, a zero for each code
 //!   announce KEY VALUE ..          opens a tender with the worked example's announcement and the
 //!                                  keys' values: host/compose's keys, and letter, Y or N
 //!   open BYTES ..                  opens a tender with any announcement
@@ -11,18 +13,19 @@
 //!                                  recipient are CODE, or CODE/NUMBER/TEXT for a branch
 //!   receive DATE TIME BYTES ..     receives any message
 //!   close DATE TIME, allot, revoke
-//!   state, terms, codes, held CODE what the calls tell that change nothing
+//!   state, terms, codes, caps, held CODE
+//!                                  what the calls tell that change nothing; caps are the limits
 //! DATE and TIME are numbers, and need not be valid ones. BYTES are pairs of hexadecimal digits or
 //! a text in double quotes. A value that is digits is filled up with zeros, one in double quotes
 //! with blanks. Keys that each step may have after all others:
 //!   space N                        how many bytes the reply space has, 500 without the key
 //!   places N                       how many awards there is room for, 640 without the key
 //!   numbers N                      how many numbers the array has that is told numbers
-//!   words N                        how many words are lent, 1496 without the key
+//!   words N                        how many words are lent, 1560 without the key
 //!   set WORD/VALUE                 sets a word before the call, and puts it back after a refused
 //!                                  one. Word 0 is the form, 1 the state, 2 the number of codes;
-//!                                  from 24 on stand the codes and from 856 on the amounts, ten for
-//!                                  each code
+//!                                  from 24 on stand the codes, from 856 on the amounts, ten for
+//!                                  each code, and from 1496 on the limits
 
 pub mod keys;
 mod line;
@@ -59,13 +62,36 @@ admit 90001 90002
 announce offered 15000
 
 apply 12032012 103000 90001 100000 150000/10000 cro 7 space 435
-close 12032012 110001 words 1495 set 1/4
+close 12032012 110001 words 1559 set 1/4
 held 90001 numbers 3
 ";
         assert_eq!(
             text(&steps(script).unwrap()),
             script.replace("# The worked tender.\n", "").replace("\n\n", "\n")
         );
+    }
+
+    #[test]
+    fn limits_stand_until_the_next_admission() {
+        let script = "\
+admit 90001 90002
+limits 00040000 0
+announce
+limits
+announce
+limits 18446744073709551615
+announce
+admit 90001
+announce
+";
+        let read = steps(script).unwrap();
+        let given = |step: &Step| match &step.call {
+            Call::Open { limits, .. } => limits.clone(),
+            _ => unreachable!("each step is an opening"),
+        };
+        let limits: Vec<_> = read.iter().map(given).collect();
+        assert_eq!(limits, [vec![40_000, 0], vec![], vec![u64::MAX], vec![0]]);
+        assert_eq!(text(&read), script.replace("00040000", "40000"));
     }
 
     #[test]
@@ -96,7 +122,10 @@ apply 12032012 103000 90001 100000 recipient 01001
             ("close 1203201x 110000", "line 1: 1203201x is not a number"),
             ("revoke now", "line 1: now is not a key of this step"),
             ("revoke words", "line 1: words has no value"),
-            ("revoke words 1513", "line 1: words 1513 is more than 1512"),
+            ("revoke words 1577", "line 1: words 1577 is more than 1576"),
+            ("limits 1 -2", "line 1: -2 is not a number"),
+            ("limits 18446744073709551616", "line 1: 18446744073709551616 is not a number"),
+            ("limits \"1\"", "line 1: 1 is not a number"),
             ("revoke set 3/1", "line 1: word 3 cannot be set"),
             ("receive 12032012 110000 0", "line 1: 0 is not pairs of hexadecimal digits"),
             ("receive 12032012 110000 \"0", "line 1: a text has no end"),

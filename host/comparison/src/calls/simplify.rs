@@ -1,4 +1,5 @@
-//! Makes the steps of a sequence simpler where its difference stays: fewer codes, bids and keys.
+//! Makes the steps of a sequence simpler where its difference stays: fewer codes, limits, bids and
+//! keys.
 
 use crate::calls::book::{Book, WORDS};
 use crate::calls::reduce::difference;
@@ -53,12 +54,15 @@ fn simpler(step: &Step) -> Vec<Step> {
 
 fn simpler_calls(call: &Call) -> Vec<Call> {
     match call {
-        Call::Open { codes, message } => {
-            let fewer = fewer_codes(codes).into_iter();
-            let fewer = fewer.map(|codes| Call::Open { codes, message: message.clone() });
+        Call::Open { codes, limits, message } => {
+            let opening = |codes, limits, message| Call::Open { codes, limits, message };
+            let fewer = fewer_admitted(codes, limits).into_iter();
+            let fewer = fewer.map(|(codes, limits)| opening(codes, limits, message.clone()));
+            let lower = fewer_limits(limits).into_iter();
+            let lower = lower.map(|limits| opening(codes.clone(), limits, message.clone()));
             let messages = nearer(message, &keys::announcement(), &keys::ANNOUNCEMENT).into_iter();
-            let messages = messages.map(|message| Call::Open { codes: codes.clone(), message });
-            fewer.chain(messages).collect()
+            let messages = messages.map(|message| opening(codes.clone(), limits.clone(), message));
+            fewer.chain(lower).chain(messages).collect()
         }
         Call::Receive { clock, message, space } => {
             let with = |message, space| Call::Receive { clock: *clock, message, space };
@@ -100,12 +104,34 @@ fn application_keys() -> Vec<Key> {
     keys::APPLICATION.into_iter().chain(places).collect()
 }
 
-/// Either half of the codes, and the codes without each of them.
-fn fewer_codes(codes: &[u32]) -> Vec<Vec<u32>> {
-    let (first, second) = codes.split_at(codes.len() / 2);
+/// Either half of the codes, and the codes without each of them, with the limits that stand beside
+/// them.
+fn fewer_admitted(codes: &[u32], limits: &[u64]) -> Vec<(Vec<u32>, Vec<u64>)> {
+    let limits = if limits.len() == codes.len() {
+        fewer(limits)
+    } else {
+        vec![limits.to_vec(); codes.len() + 2]
+    };
+    fewer(codes).into_iter().zip(limits).collect()
+}
+
+/// Either half of a list, and the list without each of its elements.
+fn fewer<T: Copy>(list: &[T]) -> Vec<Vec<T>> {
+    let (first, second) = list.split_at(list.len() / 2);
     let mut lists = vec![first.to_vec(), second.to_vec()];
-    for index in 0..codes.len() {
-        lists.push([&codes[..index], &codes[index + 1..]].concat());
+    for index in 0..list.len() {
+        lists.push([&list[..index], &list[index + 1..]].concat());
+    }
+    lists
+}
+
+/// No limit for anybody, and no limit for each by itself.
+fn fewer_limits(limits: &[u64]) -> Vec<Vec<u64>> {
+    let mut lists = vec![vec![0; limits.len()]];
+    for index in 0..limits.len() {
+        let mut list = limits.to_vec();
+        list[index] = 0;
+        lists.push(list);
     }
     lists
 }

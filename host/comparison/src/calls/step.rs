@@ -6,7 +6,7 @@ use crate::calls::padded::{self, Padded};
 /// The calls, with what a host hands over.
 #[derive(Clone, Debug, PartialEq, Eq)]
 pub enum Call {
-    Open { codes: Vec<u32>, message: Vec<u8> },
+    Open { codes: Vec<u32>, limits: Vec<u64>, message: Vec<u8> },
     Receive { clock: (u64, u64), message: Vec<u8>, space: usize },
     Close { clock: (u64, u64) },
     Allot { places: usize },
@@ -14,12 +14,13 @@ pub enum Call {
     State,
     Terms,
     Codes,
+    Limits,
     Held { code: u64 },
 }
 
 /// The names of the calls.
-pub const KINDS: [&str; 9] =
-    ["open", "receive", "close", "allot", "revoke", "state", "terms", "codes", "held"];
+pub const KINDS: [&str; 10] =
+    ["open", "receive", "close", "allot", "revoke", "state", "terms", "codes", "limits", "held"];
 
 impl Call {
     /// The call's name.
@@ -33,7 +34,8 @@ impl Call {
             Call::State => 5,
             Call::Terms => 6,
             Call::Codes => 7,
-            Call::Held { .. } => 8,
+            Call::Limits => 8,
+            Call::Held { .. } => 9,
         }]
     }
 
@@ -44,6 +46,7 @@ impl Call {
             Call::Allot { .. } => book::ALLOTMENT_NUMBERS,
             Call::Terms => book::TERMS_NUMBERS,
             Call::Codes => book::CODES_NUMBERS,
+            Call::Limits => book::LIMITS_NUMBERS,
             Call::Held { .. } => book::HELD_NUMBERS,
             _ => 0,
         }
@@ -96,7 +99,7 @@ impl Step {
         let Given { result, space, awards, told } = &mut given;
         let (words, told) = (words.first_mut(self.words), told.all_mut());
         *result = match &self.call {
-            Call::Open { codes, message } => B::open(words, message, codes),
+            Call::Open { codes, limits, message } => B::open(words, message, codes, limits),
             Call::Receive { clock, message, .. } => {
                 B::receive(words, message, *clock, space.all_mut(), told)
             }
@@ -106,6 +109,7 @@ impl Step {
             Call::State => B::state(words),
             Call::Terms => B::terms(words, told),
             Call::Codes => B::codes(words, told),
+            Call::Limits => B::limits(words, told),
             Call::Held { code } => B::held(words, *code, told),
         };
         given

@@ -2,6 +2,7 @@
 
 use crate::addresses::shown::{Shown, NAMES};
 use crate::calls::book::{ANSWER_NUMBERS, NO_TENDER, OK};
+use crate::calls::cuts;
 use crate::calls::run::Seen;
 use crate::calls::step::{Call, Step, KINDS};
 use independent::application::Application;
@@ -10,10 +11,12 @@ use std::collections::BTreeMap;
 /// Every error code of a message, in the order in which errors are collected.
 const ERRORS: [u64; 19] =
     [900, 309, 300, 599, 521, 502, 522, 503, 908, 303, 901, 902, 903, 904, 905, 906, 907, 301, 302];
-/// The last refusal of a call on a tender.
+/// The refusals of calls on a tender that document 01 numbers, and those of the limits.
 const LAST_REFUSAL: u64 = 16;
+const LIMIT_REFUSALS: [u64; 2] = [19, 20];
 
-/// How often each kind of call, each refusal, each error and what addresses can show was seen.
+/// How often each kind of call, each refusal, each error and what addresses and limits can show was
+/// seen.
 #[derive(Default)]
 pub struct Tally {
     pub sequences: u64,
@@ -40,6 +43,7 @@ impl Tally {
             self.add(refusal_name(seen.result));
         }
         seen.errors.iter().for_each(|&code| self.add(error_name(code)));
+        seen.cuts.iter().for_each(|name| self.add(name.to_string()));
         self.count_addresses(step, seen);
     }
 
@@ -81,11 +85,11 @@ impl Tally {
     }
 }
 
-/// The names of all kinds of call, of refusals, of errors and of what addresses can show.
+/// The names of all kinds of call, of refusals, of errors and of what addresses and limits can show.
 fn all() -> Vec<String> {
     let kinds = KINDS.iter().map(|kind| kind.to_string());
-    let refusals = (1..=LAST_REFUSAL).chain([NO_TENDER]).map(refusal_name);
+    let refusals = (1..=LAST_REFUSAL).chain(LIMIT_REFUSALS).chain([NO_TENDER]).map(refusal_name);
     let errors = ERRORS.into_iter().map(error_name);
-    let addresses = NAMES.iter().map(|name| name.to_string());
-    kinds.chain(refusals).chain(errors).chain(addresses).collect()
+    let shown = NAMES.iter().chain(&cuts::NAMES).map(|name| name.to_string());
+    kinds.chain(refusals).chain(errors).chain(shown).collect()
 }

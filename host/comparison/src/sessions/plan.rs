@@ -134,7 +134,7 @@ fn aim(random: &mut Random, announcement: &mut Announcement, applications: &[Pla
 }
 
 /// The last application of each code, by the order of the list.
-fn last_of_each(applications: &[Planned]) -> Vec<Planned> {
+pub fn last_of_each(applications: &[Planned]) -> Vec<Planned> {
     let is_last = |&index: &usize| {
         let code = applications[index].code;
         applications[index + 1..].iter().all(|later| later.code != code)

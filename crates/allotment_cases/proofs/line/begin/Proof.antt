@@ -12,6 +12,12 @@ slice-aggregate-allot c = search needs
 slice-aggregate-allot-2 : tie.Need-slice-aggregate-allot-2
 slice-aggregate-allot-2 c = search needs
 
+slice-aggregate-allot-3 : tie.Need-slice-aggregate-allot-3
+slice-aggregate-allot-3 c = search needs
+
+limits-length : (c : tie.Start) → length (c .args .b .limits) ≡ 64
+limits-length c = search needs
+
 rates-length : (c : tie.Start) → length (c .args .b .rates) ≡ 640
 rates-length c = search needs
 
@@ -20,8 +26,13 @@ amounts-length c = search needs
 
 allot-requires : tie.Need-allot-requires
 allot-requires c κs =
-    let start = c .before .before .before .before .before .before .before in
-    (omega (arith, rates-length start, amounts-length start), (omega (arith, start .pre, amounts-length start), omega (arith, amounts-length start)))
+    let start = c .before .before .before .before .before .before .before .before .before in (
+      omega (arith, rates-length start, amounts-length start),
+      (
+        omega (arith, limits-length start, amounts-length start),
+        (omega (arith, start .pre, amounts-length start), omega (arith, amounts-length start)),
+      ),
+    )
 
 text-requires : tie.Need-text-requires
 text-requires c κs = search needs
@@ -41,6 +52,7 @@ begin-spec =
     (tie.spec
     slice-aggregate-allot
     slice-aggregate-allot-2
+    slice-aggregate-allot-3
     allot-requires
     text-requires
     print-refusal-requires

@@ -94,9 +94,9 @@ loop-again c = (omega arith, refl, omega arith, sets-more _ _ _ _ _ _ (omega ari
 
 returns : tie.Need-returns Inv-loop μ-loop
 returns c =
-    let s = c .before .before .before .before .before .before .before in
-    let l = c .before .before .loop in
-    viewed-timed (s .args .b) (sized s) (s .args .at) (s .args .time) (s .args .t4) (s .args .t5) (omega arith) (new-rates-length s) (new-amounts-length s) (l .i) (l .rs) (l .xs) (omega arith) (l .inv .3) (l .inv .4)
+    let s = c .before .before .before .before .before .before .before .before in
+    let l = c .before .before .before .loop in
+    (viewed-timed (s .args .b) (sized s) (s .args .at) (s .args .time) (s .args .t4) (s .args .t5) (omega arith) (new-rates-length s) (new-amounts-length s) (l .i) (l .rs) (l .xs) (omega arith) (l .inv .3) (l .inv .4), refl)
 
 pub hold-spec : {M : Type 1} → statement M
 hold-spec =

@@ -24,18 +24,31 @@ sub-put-zeros c = search needs
 put-zeros-requires : tie.Need-put-zeros-requires
 put-zeros-requires c κs = search needs
 
+put-limits-requires : tie.Need-put-limits-requires
+put-limits-requires c κs =
+    let start = c .before .before .before .before .before .before .before .before .before .before .before .before .before .before .before .before .before .before .before .before in
+    let codes = now (start .args .codes) in
+    let head = c .before .before .before .before .before .before .before .before .before .before .before .before .before .before .before .put-three in
+    let terms = c .before .before .before .before .before .before .before .before .before .before .before .put-terms in
+    let admitted = c .before .before .before .before .before .before .before .put-codes in
+    let zeros = c .before .before .before .put-zeros in
+    (omega (arith, head .kept .0, terms .kept .0, admitted .kept .0, zeros .kept .0, zeros .ensures .past, length-replicate {A = ℕ} (1472 - length codes) 0, admitted .ensures .past, terms .ensures .1, head .ensures .past, start .pre .0, start .pre .1), start .pre .2)
+
 same-length : tie.Need-same-length
 same-length c = search needs
 
 returns : tie.Need-returns
 unfolding openedNumbers
 returns c =
-    let start = c .before .before .before .before .before .before .before .before .before .before .before .before .before .before .before .before .before .before in
+    let start = c .before .before .before .before .before .before .before .before .before .before .before .before .before .before .before .before .before .before .before .before .before .before .before in
     let codes = now (start .args .codes) in
-    let terms = c .before .before .before .before .before .before .before .before .before .before .put-terms .ensures in
-    let w = and-then (and-then (and-then (c .before .before .before .before .before .before .before .before .before .before .before .before .before .before .put-three .ensures) (terms .0)) (c .before .before .before .before .before .before .put-codes .ensures)) (c .before .before .put-zeros .ensures) in
-    let e = c .before .before .put-zeros .ensures .past in
-    (w, omega (arith, e, length-replicate {A = ℕ} (1472 - length codes) 0, c .before .before .before .before .before .before .put-codes .ensures .past, terms .1, c .before .before .before .before .before .before .before .before .before .before .before .before .before .before .put-three .ensures .past, start .pre .1), terms .2)
+    let head = c .before .before .before .before .before .before .before .before .before .before .before .before .before .before .before .before .before .before .put-three .ensures in
+    let terms = c .before .before .before .before .before .before .before .before .before .before .before .before .before .before .put-terms .ensures in
+    let admitted = c .before .before .before .before .before .before .before .before .before .before .put-codes .ensures in
+    let zeros = c .before .before .before .before .before .before .put-zeros .ensures in
+    let limits = c .before .before .put-limits .ensures in
+    let written = and-then (and-then (and-then (and-then head (terms .0)) admitted) zeros) (limits .0) in
+    (written, omega (arith, limits .1, zeros .past, length-replicate {A = ℕ} (1472 - length codes) 0, admitted .past, terms .1, head .past, start .pre .1), terms .2)
 
 pub put-tender-spec : {M : Type 1} → statement M
 put-tender-spec =
@@ -46,5 +59,6 @@ put-tender-spec =
     put-codes-requires
     sub-put-zeros
     put-zeros-requires
+    put-limits-requires
     same-length
     returns)

@@ -14,17 +14,17 @@ use Rattle.refusals.proofs.Conditions.{none-of}
 use Rattle.outcomes.specs.Outcomes.{viewedOf}
 use Rattle.outcomes.specs.Allotting.{AllotsBids}
 use Rattle.outcomes.proofs.Awarding.{lent-length}
-use Rattle.buffer.specs.Words.{part, termsIn, bookIn, tenderIn}
+use Rattle.buffer.specs.Words.{tenderWords, part, termsIn, bookIn, tenderIn}
 use Rattle.buffer.proofs.Parts.{part-length}
 use Rattle.buffer.proofs.Words.{known}
 use Rattle.in_place.specs.InPlace.{ChangesIn, AllotsIn}
 use Rattle.in_place.proofs.Changing.{changed, changes-refused, changes-state}
-use Rattle.in_place.proofs.Allotting.{amounts-lent, bids-lent, allots-in}
+use Rattle.in_place.proofs.Allotting.{part-lent, bids-lent, limits-lent, allots-in}
 use borrow.Author.Needs.{needs}
 use Rattle.in_place.proofs.internal.allot_in.Statement.{statement}
 use Rattle.in_place.proofs.internal.allot_in.Tie as tie
 
-long : (c : tie.Start) → 1496 ≤ length (now (c .args .words))
+long : (c : tie.Start) → tenderWords ≤ length (now (c .args .words))
 long c = known (now (c .args .words)) (c .pre .0) .long
 
 slice-read-up-to-64 : tie.Need-slice-read-up-to-64
@@ -52,25 +52,25 @@ slice-read-state-of c = let h = long (c .before .before .before .before .before 
 state-of-requires : tie.Need-state-of-requires
 state-of-requires c κs = search needs
 
+-- there are at most 64 codes
+few-codes : (c : tie.After-up-to-64) → c .up-to-64 .result ≤ 64
+few-codes c = omega (arith, c .up-to-64 .ensures, upTo64-small (getD (now (c .before .before .before .before .args .words)) 2 0) .0)
+
+add-allot-bids : tie.Need-add-allot-bids
+add-allot-bids c = let e = few-codes (c .before .before .before .before .before .before) in omega (arith, e)
+
 sub-allot-bids : tie.Need-sub-allot-bids
 sub-allot-bids c = search needs
 
 part-allot-bids-start : tie.Need-part-allot-bids-start
 part-allot-bids-start c = search needs
 
--- the rates have 640 places
-rates-long : (c : tie.After-rates-in) → length (c .rates-in .result) ≡ 640
-rates-long c = search needs
-
 part-allot-bids-end : tie.Need-part-allot-bids-end
 part-allot-bids-end c =
-    let k = c .before .before .before .before .before in
-    let e = few (k .before .before) in
-    let r = rates-long k in
-    omega (arith, e, r)
-
-add-allot-bids : tie.Need-add-allot-bids
-add-allot-bids c = let e = few (c .before .before .before .before .before .before .before .before) in omega (arith, e)
+    let u = c .before .before .before .before .before .before .before in
+    let e = few-codes u in
+    let h = long (u .before .before .before .before) in
+    omega (arith, e, h)
 
 sub-allot-bids-2 : tie.Need-sub-allot-bids-2
 sub-allot-bids-2 c = search needs
@@ -78,12 +78,19 @@ sub-allot-bids-2 c = search needs
 part-allot-bids-start-2 : tie.Need-part-allot-bids-start-2
 part-allot-bids-start-2 c = search needs
 
+-- the rates have 640 places
+rates-long : (c : tie.After-rates-in) → length (c .rates-in .result) ≡ 640
+rates-long c = search needs
+
 part-allot-bids-end-2 : tie.Need-part-allot-bids-end-2
 part-allot-bids-end-2 c =
-    let u = c .before .before .before .before .before .before .before .before .before in
-    let e = few u in
-    let h = long (u .before .before .before .before) in
-    omega (arith, e, h)
+    let k = c .before .before .before .before .before .before .before in
+    let e = few (k .before .before) in
+    let r = rates-long k in
+    omega (arith, e, r)
+
+add-allot-bids-2 : tie.Need-add-allot-bids-2
+add-allot-bids-2 c = let e = few (c .before .before .before .before .before .before .before .before .before .before) in omega (arith, e)
 
 sub-allot-bids-3 : tie.Need-sub-allot-bids-3
 sub-allot-bids-3 c = search needs
@@ -95,6 +102,19 @@ part-allot-bids-end-3 : tie.Need-part-allot-bids-end-3
 part-allot-bids-end-3 c =
     let u = c .before .before .before .before .before .before .before .before .before .before in
     let e = few u in
+    let h = long (u .before .before .before .before) in
+    omega (arith, e, h)
+
+sub-allot-bids-4 : tie.Need-sub-allot-bids-4
+sub-allot-bids-4 c = search needs
+
+part-allot-bids-start-4 : tie.Need-part-allot-bids-start-4
+part-allot-bids-start-4 c = search needs
+
+part-allot-bids-end-4 : tie.Need-part-allot-bids-end-4
+part-allot-bids-end-4 c =
+    let u = c .before .before .before .before .before .before .before .before .before .before .before in
+    let e = few u in
     let z = ap length (u .before .before .before .before .pre .1) ∙ length-replicate {A = ℕ} 640 0 in
     omega (arith, e, z)
 
@@ -104,7 +124,7 @@ zeros c = ap length (c .pre .1) ∙ length-replicate {A = ℕ} 640 0
 
 allot-bids-requires : tie.Need-allot-bids-requires
 allot-bids-requires c κs =
-    let k = c .before .before .before .before .before .before .before .before .before in
+    let k = c .before .before .before .before .before .before .before .before .before .before in
     let u = k .before .before in
     let start = u .before .before .before .before in
     let n = 10 * u .up-to-64 .result in
@@ -114,9 +134,10 @@ allot-bids-requires c κs =
     let r = rates-long k in
     let z = zeros start in
     let rates = lent-length (k .rates-in .result) n (omega (arith, e, r)) in
-    let amounts = ap length (amounts-lent ws n e) ∙ length-take-le n (part 856 640 ws) (omega (arith, e, part-length ws 856 640 (omega (arith, h)))) in
+    let amounts = ap length (part-lent ws 856 640 n e) ∙ length-take-le n (part 856 640 ws) (omega (arith, e, part-length ws 856 640 (omega (arith, h)))) in
+    let limits = ap length (part-lent ws 1496 64 (u .up-to-64 .result) (few-codes u)) ∙ length-take-le (u .up-to-64 .result) (part 1496 64 ws) (omega (arith, few-codes u, part-length ws 1496 64 (omega (arith, h)))) in
     let awards = lent-length (now (start .args .awards)) n (omega (arith, e, z)) in
-    (omega (arith, rates, amounts), omega (arith, amounts, awards), omega (arith, amounts, e))
+    ((omega (arith, rates, amounts), omega (arith, amounts, awards), omega (arith, amounts, e)), omega (arith, limits, amounts))
 
 is-refused-requires : tie.Need-is-refused-requires
 is-refused-requires c κs = search needs
@@ -130,7 +151,7 @@ same-length-2 c = search needs
 -- what allotting the bids of the words gives, and the words after it
 module _ (c : tie.After-allot-bids) where
   abbrev u : tie.After-up-to-64
-  u = c .before .before .before .before .before .before .before .before .before .before .before .before
+  u = c .before .before .before .before .before .before .before .before .before .before .before .before .before
 
   abbrev start : tie.Start
   start = u .before .before .before .before
@@ -139,17 +160,17 @@ module _ (c : tie.After-allot-bids) where
   ws = now (start .args .words)
 
   abbrev awarded : List ℕ
-  awarded = c .allot-bids .last .1 .1 .1 .1 .0
+  awarded = c .allot-bids .last .1 .1 .1 .1 .1 .0
 
   bids : AllotsBids (tenderIn ws) (take (10 * u .up-to-64 .result - 0) (replicate 640 0)) (c .allot-bids .result) awarded
   bids =
-      let s = c .before .before .before .before .before .before in
+      let s = c .before .before .before .before .before .before .before in
       let k = s .before .before .before .before in
       let n = u .up-to-64 .result in
       subst (λ (l : List ℕ). AllotsBids (tenderIn ws) (take (10 * n - 0) l) (c .allot-bids .result) awarded) (start .pre .1)
       (subst (λ (x : State). AllotsBids (viewedOf x (termsIn ws) (bookIn ws)) (take (10 * n - 0) (now (start .args .awards))) (c .allot-bids .result) awarded) (s .state-of .ensures)
       (subst (λ (t : Terms). AllotsBids (viewedOf (s .state-of .result) t (bookIn ws)) (take (10 * n - 0) (now (start .args .awards))) (c .allot-bids .result) awarded) (s .before .before .terms-in .ensures)
-      (c .allot-bids .ensures (bookIn ws) (bids-lent ws n (k .rates-in .result) (long start) (u .up-to-64 .ensures) (few u) (k .rates-in .ensures)))))
+      (c .allot-bids .ensures (bookIn ws) (bids-lent ws n (k .rates-in .result) (long start) (u .up-to-64 .ensures) (few u) (k .rates-in .ensures)) (limits-lent ws n (u .up-to-64 .ensures) (few-codes u)))))
 
   allots : (after : List ℕ) → ChangesIn ws (changed ws 2 (refusalNumber (c .allot-bids .result .refusal))) 2 (c .allot-bids .result .refusal) after
       → AllotsIn ws (c .allot-bids .result) after (awarded ++ drop (10 * u .up-to-64 .result - 0) (now (start .args .awards)))
@@ -158,7 +179,7 @@ module _ (c : tie.After-allot-bids) where
       let h = few u in
       let z = zeros start in
       subst (λ (l : List ℕ). AllotsIn ws (c .allot-bids .result) after (awarded ++ drop (10 * n - 0) l)) (sym (start .pre .1))
-      (allots-in ws after (c .allot-bids .result) n awarded h (c .allot-bids .kept .1 .1 .1 .1 .0 ∙ lent-length (now (start .args .awards)) (10 * n) (omega (arith, h, z))) bids change)
+      (allots-in ws after (c .allot-bids .result) n awarded h (c .allot-bids .kept .1 .1 .1 .1 .1 .0 ∙ lent-length (now (start .args .awards)) (10 * n) (omega (arith, h, z))) bids change)
 
 returns : tie.Need-returns
 returns c =
@@ -167,7 +188,7 @@ returns c =
     allots a (ws a) (changes-refused (ws a) (start a .pre .0) 2 r (refusalNumber r) refl (sym (c .before .is-refused .ensures) ∙ c .if1 .taken))
 
 slice-write-words : tie.Need-slice-write-words
-slice-write-words c = let h = long (c .before .before .before .before .before .before .before .before .before .before .before .before .before .before .before .before .before .before .before .before) in omega (arith, h)
+slice-write-words c = let h = long (c .before .before .before .before .before .before .before .before .before .before .before .before .before .before .before .before .before .before .before .before .before) in omega (arith, h)
 
 same-length-3 : tie.Need-same-length-3
 same-length-3 c = search needs
@@ -192,16 +213,20 @@ allot-in-spec =
     terms-in-requires
     slice-read-state-of
     state-of-requires
+    add-allot-bids
     sub-allot-bids
     part-allot-bids-start
     part-allot-bids-end
-    add-allot-bids
     sub-allot-bids-2
     part-allot-bids-start-2
     part-allot-bids-end-2
+    add-allot-bids-2
     sub-allot-bids-3
     part-allot-bids-start-3
     part-allot-bids-end-3
+    sub-allot-bids-4
+    part-allot-bids-start-4
+    part-allot-bids-end-4
     allot-bids-requires
     is-refused-requires
     same-length

@@ -9,7 +9,7 @@ use lib.Seq.{sets}
 use borrow.Author.Tests.{not-true, not-false}
 use Rattle.laws.proofs.Arrays.{length-mapped}
 use Rattle.bids.specs.Columns.{cents}
-use Rattle.buffer.specs.Words.{holding}
+use Rattle.buffer.specs.Words.{tenderWords, holding}
 use Rattle.buffer.proofs.Words.{known}
 use Rattle.in_place.specs.InPlace.{LeavesIn}
 use Rattle.in_place.proofs.Leaving.{leaves-nothing, leaves-held}
@@ -21,7 +21,7 @@ is-held-requires : tie.Need-is-held-requires
 is-held-requires c κs = search needs
 
 -- what is known of the words and of the message
-long : (c : tie.Start) → 1496 ≤ length (now (c .args .words))
+long : (c : tie.Start) → tenderWords ≤ length (now (c .args .words))
 long c = known (now (c .args .words)) (c .pre .0) .long
 
 ten : (c : tie.Start) → length (c .args .o .accepted .rates) ≡ 10

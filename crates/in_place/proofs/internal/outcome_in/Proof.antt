@@ -18,12 +18,12 @@ use Rattle.refusals.specs.Conditions.{refusalNumber, isSome}
 use Rattle.refusals.proofs.Conditions.{none-of}
 use Rattle.outcomes.specs.Outcomes.{Checks, LeavesInAny, acceptedOf}
 use Rattle.outcomes.proofs.Outcomes.{comes-refused, comes-judged}
-use Rattle.buffer.specs.Words.{stateIn, termsIn, bookIn}
+use Rattle.buffer.specs.Words.{tenderWords, stateIn, termsIn, bookIn}
 use Rattle.buffer.proofs.Words.{known, codes-rise}
 use Rattle.in_place.proofs.internal.outcome_in.Statement.{statement}
 use Rattle.in_place.proofs.internal.outcome_in.Tie as tie
 
-long : (c : tie.Start) → 1496 ≤ length (now (c .args .words))
+long : (c : tie.Start) → tenderWords ≤ length (now (c .args .words))
 long c = known (now (c .args .words)) (c .pre) .long
 
 shared-slice-read-state-of : tie.Need-shared-slice-read-state-of

@@ -7,13 +7,13 @@ use denote.Ref.{now}
 use lib.ListN.{length, take, drop, set, replicate, length-map, length-replicate}
 use lib.Seq.{take-at, length-take-le}
 use Rattle.book.proofs.Mapped.{MappedTo, mapped-more}
-use Rattle.buffer.specs.Words.{part, low32}
+use Rattle.buffer.specs.Words.{tenderWords, part, low32}
 use Rattle.buffer.proofs.Parts.{part-length, word-at}
 use Rattle.in_place.proofs.internal.rates_in.Statement.{statement}
 use Rattle.in_place.proofs.internal.rates_in.Tie as tie
 
 abbrev Inv-loop : tie.InvT-loop
-Inv-loop words end rates₀ i₀ rates i = (i ≤ end) × ((1496 ≤ length words) × (end ≤ 640)) × MappedTo low32 (part 216 640 words) rates₀ rates i
+Inv-loop words end rates₀ i₀ rates i = (i ≤ end) × ((tenderWords ≤ length words) × (end ≤ 640)) × MappedTo low32 (part 216 640 words) rates₀ rates i
 
 abbrev μ-loop : tie.MeasureT-loop
 μ-loop words end rates₀ i₀ rates i = end - i

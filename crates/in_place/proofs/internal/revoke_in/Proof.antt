@@ -11,14 +11,14 @@ use Rattle.terms.specs.Viewed as terms
 use Rattle.refusals.specs.declared.State.{State}
 use Rattle.refusals.specs.Conditions.{refusalNumber, tenderIn}
 use Rattle.refusals.proofs.Conditions.{none-of}
-use Rattle.buffer.specs.Words.{stateIn, termsIn, bookIn}
+use Rattle.buffer.specs.Words.{tenderWords, stateIn, termsIn, bookIn}
 use Rattle.buffer.specs.Words as buffer
 use Rattle.buffer.proofs.Words.{known}
 use Rattle.in_place.proofs.Changing.{changes-refused, changes-state}
 use Rattle.in_place.proofs.internal.revoke_in.Statement.{statement}
 use Rattle.in_place.proofs.internal.revoke_in.Tie as tie
 
-long : (c : tie.Start) → 1496 ≤ length (now (c .args .words))
+long : (c : tie.Start) → tenderWords ≤ length (now (c .args .words))
 long c = known (now (c .args .words)) (c .pre) .long
 
 slice-read-state-of : tie.Need-slice-read-state-of

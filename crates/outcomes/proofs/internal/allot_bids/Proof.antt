@@ -16,9 +16,9 @@ is-refused-requires : tie.Need-is-refused-requires
 is-refused-requires c κs = search needs
 
 returns : tie.Need-returns
-returns c book all =
+returns c book all capped =
     let n = c .before .before .not-closed in
-    let a = c .before .before .before .before .before .before .args in
+    let a = c .before .before .before .before .before .before .before .args in
     let t = viewedOf (a .state) (a .terms) book in
     allots-not t (now (a .awards)) _ (n .ensures) (sym (c .before .is-refused .ensures) ∙ c .if1 .taken) refl
 
@@ -32,12 +32,14 @@ same-length : tie.Need-same-length
 same-length c = search needs
 
 returns-2 : tie.Need-returns-2
-returns-2 c book all =
+returns-2 c book all capped =
     let allotted = c .before .before .before .allot in
-    let a = c .before .before .before .before .before .before .before .before .before .before .before .before .before .args in
+    let first = c .before .before .before .before .before .before .before .before .before in
+    let refused = c .before .before .before .before .before .before .before .before in
+    let a = c .before .before .before .before .before .before .before .before .before .before .before .before .before .before .args in
     let t = viewedOf (a .state) (a .terms) book in
-    allots-bids t (now (a .awards)) _ (refusalNumber (c .before .before .before .before .before .before .before .before .before .not-closed .result)) (bidsOf (now (a .rates)) (now (a .amounts))) (allotted .result .exceeds) (allotted .last .1 .1 .1 .0) all (c .before .before .before .before .before .before .before .before .before .not-closed .ensures)
-    (sym (c .before .before .before .before .before .before .before .before .is-refused .ensures) ∙ c .before .before .before .before .before .before .before .if1 .left) (c .bids-refusal .ensures) (allotted .ensures)
+    allots-bids t (now (a .awards)) _ (refusalNumber (first .not-closed .result)) (now (a .limits)) (bidsOf (now (a .rates)) (now (a .amounts))) (allotted .result .exceeds) (allotted .last .1 .1 .1 .1 .0) all capped (first .not-closed .ensures)
+    (sym (refused .is-refused .ensures) ∙ c .before .before .before .before .before .before .before .if1 .left) (c .bids-refusal .ensures) (allotted .ensures)
 
 pub allot-bids-spec : {M : Type 1} → statement M
 allot-bids-spec =

@@ -18,7 +18,8 @@ returns c =
     let h = c .before .before .before .before .before in
     let a = h .before .args in
     let told = sym (h .is-held .ensures) ∙ c .before .before .before .before .if1 .taken in (
-      c .hold .ensures ∙ sym (ap (λ (b : Bool). cond b (replaced (viewed (a .b)) (a .o .accepted .at) (a .o .accepted .time) (bidsFrom (a .o .accepted .rates) (a .o .accepted .amounts) 0 10)) (viewed (a .b))) told),
+      c .hold .ensures .0 ∙ sym (ap (λ (b : Bool). cond b (replaced (viewed (a .b)) (a .o .accepted .at) (a .o .accepted .time) (bidsFrom (a .o .accepted .rates) (a .o .accepted .amounts) 0 10)) (viewed (a .b))) told),
+      c .hold .ensures .1,
       λ q. absurd (false≢true (sym q ∙ told)),
     )
 
@@ -27,7 +28,7 @@ returns-2 c =
     let h = c .before in
     let a = h .before .args in
     let told = sym (h .is-held .ensures) ∙ c .if1 .left in
-    (sym (ap (λ (b : Bool). cond b (replaced (viewed (a .b)) (a .o .accepted .at) (a .o .accepted .time) (bidsFrom (a .o .accepted .rates) (a .o .accepted .amounts) 0 10)) (viewed (a .b))) told), λ q. refl)
+    (sym (ap (λ (b : Bool). cond b (replaced (viewed (a .b)) (a .o .accepted .at) (a .o .accepted .time) (bidsFrom (a .o .accepted .rates) (a .o .accepted .amounts) 0 10)) (viewed (a .b))) told), refl, λ q. refl)
 
 pub held-in-spec : {M : Type 1} → statement M
 held-in-spec = tie.close (tie.spec is-held-requires hold-requires returns returns-2)

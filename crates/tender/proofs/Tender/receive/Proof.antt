@@ -63,8 +63,9 @@ returns-2 c =
     let r = o .outcome-of .result in
     receives-answered (a .self) (start .pre) x (r .errors) (p .put-reply .result) (c .held-in .result) (p .put-reply .last .0)
     (ap (λ (es : List Entry). (listed (r .errors), es)) (c .held-in .ensures .0) ∙ e .left q (now (a .space)))
+    (c .held-in .ensures .1)
     (sym (e .number (now (a .space)) refl) ∙ q)
-    (λ h. c .held-in .ensures .1 (not-held r q h))
+    (λ h. c .held-in .ensures .2 (not-held r q h))
     (e .few)
     (p .put-reply .ensures)
 

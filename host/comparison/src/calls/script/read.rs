@@ -1,7 +1,7 @@
 //! Reads a script.
 
 use crate::calls::book::WORDS;
-use crate::calls::layout::{AMOUNTS, CODES, COUNT, FORM, STATE};
+use crate::calls::layout::{AMOUNTS, CODES, COUNT, FORM, LIMITS, STATE};
 use crate::calls::padded::MARGIN;
 use crate::calls::script::keys::{self, Key};
 use crate::calls::script::line::{words, Word, Words};
@@ -11,10 +11,17 @@ use crate::calls::step::{Call, Step};
 use independent::award::POSITIONS;
 use independent::tender::MOST_CODES;
 
+/// What the openings that follow are given: the admitted codes and their limits.
+#[derive(Default)]
+struct Admission {
+    codes: Vec<u32>,
+    limits: Vec<u64>,
+}
+
 /// The steps of a script, or what is wrong with which of its lines.
 pub fn steps(script: &str) -> Result<Vec<Step>, String> {
     let mut steps = Vec::new();
-    let mut admitted = Vec::new();
+    let mut admitted = Admission::default();
     for (index, line) in script.lines().enumerate() {
         let step = step_of(line, &mut admitted);
         steps.extend(step.map_err(|wrong| format!("line {}: {wrong}", index + 1))?);
@@ -22,16 +29,18 @@ pub fn steps(script: &str) -> Result<Vec<Step>, String> {
     Ok(steps)
 }
 
-/// The step of a line; a comment has none, and an admission changes the codes alone.
-fn step_of(line: &str, admitted: &mut Vec<u32>) -> Result<Option<Step>, String> {
+/// The step of a line; a comment has none, and codes and limits change the admission alone.
+fn step_of(line: &str, admitted: &mut Admission) -> Result<Option<Step>, String> {
     let line = words(line)?;
     let mut words = Words::new(&line);
     let Some(name) = words.next() else { return Ok(None) };
     if name.is("admit") {
-        admitted.clear();
-        while let Some(word) = words.next() {
-            admitted.push(word.number()?);
-        }
+        admitted.codes = numbers_of(&mut words)?;
+        admitted.limits = vec![0; admitted.codes.len()];
+        return Ok(None);
+    }
+    if name.is("limits") {
+        admitted.limits = numbers_of(&mut words)?;
         return Ok(None);
     }
     let mut step = Step::new(call_of(&name.text, &mut words, admitted)?);
@@ -42,8 +51,18 @@ fn step_of(line: &str, admitted: &mut Vec<u32>) -> Result<Option<Step>, String> 
     Ok(Some(step))
 }
 
-fn call_of(name: &str, words: &mut Words, admitted: &[u32]) -> Result<Call, String> {
-    let opened = |message| Call::Open { codes: admitted.to_vec(), message };
+/// The numbers up to the end of the line.
+fn numbers_of<T: std::str::FromStr>(words: &mut Words) -> Result<Vec<T>, String> {
+    let mut numbers = Vec::new();
+    while let Some(word) = words.next() {
+        numbers.push(word.number()?);
+    }
+    Ok(numbers)
+}
+
+fn call_of(name: &str, words: &mut Words, admitted: &Admission) -> Result<Call, String> {
+    let Admission { codes, limits } = admitted;
+    let opened = |message| Call::Open { codes: codes.clone(), limits: limits.clone(), message };
     Ok(match name {
         "announce" => opened(message_of(words, keys::announcement(), &keys::ANNOUNCEMENT)?),
         "open" => opened(bytes_of(words)?),
@@ -61,6 +80,7 @@ fn call_of(name: &str, words: &mut Words, admitted: &[u32]) -> Result<Call, Stri
         "state" => Call::State,
         "terms" => Call::Terms,
         "codes" => Call::Codes,
+        "caps" => Call::Limits,
         "held" => Call::Held { code: words.number("a code")? },
         _ => return Err(format!("{name} is not known")),
     })
@@ -170,6 +190,7 @@ fn set_of(word: &Word) -> Result<(usize, u64), String> {
     let value = value.parse().map_err(|_| wrong())?;
     let can_be_set = [FORM, STATE, COUNT].contains(&index)
         || (CODES..CODES + MOST_CODES).contains(&index) && value <= 99_999
-        || (AMOUNTS..AMOUNTS + POSITIONS).contains(&index);
+        || (AMOUNTS..AMOUNTS + POSITIONS).contains(&index)
+        || (LIMITS..LIMITS + MOST_CODES).contains(&index);
     can_be_set.then_some((index, value)).ok_or_else(|| format!("word {index} cannot be set"))
 }

@@ -15,14 +15,20 @@ use independent::envelope::HEADER;
 /// The steps as a script.
 pub fn text(steps: &[Step]) -> String {
     let mut lines = String::new();
-    let mut admitted: &[u32] = &[];
+    let (mut admitted, mut capped) = (Vec::new(), Vec::new());
     for step in steps {
-        if let Call::Open { codes, .. } = &step.call {
-            if codes != admitted {
-                let codes: Vec<_> = codes.iter().map(|code| format!(" {code:05}")).collect();
-                lines += &format!("admit{}\n", codes.concat());
+        if let Call::Open { codes, limits, .. } = &step.call {
+            if *codes != admitted {
+                let words: Vec<_> = codes.iter().map(|code| format!(" {code:05}")).collect();
+                lines += &format!("admit{}\n", words.concat());
+                admitted.clone_from(codes);
+                capped = vec![0; codes.len()];
             }
-            admitted = codes;
+            if *limits != capped {
+                let words: Vec<_> = limits.iter().map(|limit| format!(" {limit}")).collect();
+                lines += &format!("limits{}\n", words.concat());
+                capped.clone_from(limits);
+            }
         }
         lines += &format!("{}{}\n", call_text(&step.call), keys_text(step));
     }
@@ -34,6 +40,7 @@ fn call_text(call: &Call) -> String {
         Call::Open { message, .. } => announcement_text(message),
         Call::Receive { clock, message, .. } => reception_text(*clock, message),
         Call::Close { clock } => format!("close {}", clock_text(*clock)),
+        Call::Limits => "caps".to_string(),
         Call::Held { code } => format!("held {code:05}"),
         _ => call.kind().to_string(),
     }

@@ -1,4 +1,4 @@
--- `buffer_questions::internal::put_words` meets its contract. The loop's invariant: the first k words are written. Assumes nothing.
+-- `buffer_opening::internal::put_words` meets its contract. The loop's invariant: the first k words are written. Assumes nothing.
 use mathlib.Core.Path.{_≡_, refl, ap, _∙_}
 use Prim.Native.Nat.{ℕ, _+_, _-_, _≤_}
 use native.Mathlib.Omega.{arith}
@@ -7,9 +7,9 @@ use lib.ListN.{length, take}
 use lib.Seq.{take-length}
 use Rattle.output.specs.Output.{Wrote}
 use Rattle.output.proofs.Output.{nothing, said}
 use Rattle.buffer_opening.proofs.Writing.{one-more}
-use Rattle.buffer_questions.proofs.internal.put_words.Statement.{statement}
-use Rattle.buffer_questions.proofs.internal.put_words.Tie as tie
+use Rattle.buffer_opening.proofs.internal.put_words.Statement.{statement}
+use Rattle.buffer_opening.proofs.internal.put_words.Tie as tie
 
 abbrev Inv-loop : tie.InvT-loop
 Inv-loop numbers₀ at words end₀ k₀ numbers end k =

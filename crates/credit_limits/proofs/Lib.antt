@@ -1,0 +1,9 @@
+pub mod Capped
+pub mod Places
+pub mod Fitting
+pub mod Totals
+pub mod Lent
+pub mod Order
+pub mod Weighing
+pub mod Walk
+pub mod Rows
