@@ -30,7 +30,7 @@ fn last_rate(o: Offer, m: MarginalRate) -> Rate
     }
 }
 
-// Writes the awards of bids whose marginal rate is known, in book order. Where one function told that rate too, the shares took a fifth longer.
+// Writes the awards of bids whose marginal rate is known, in book order. In one function with the search for that rate the shares took a fifth longer.
 fn award(o: Offer, marginal: MarginalRate, rates: &[u32], amounts: &[u64], awards: &mut [u64])
     requires { ⌜ length (now rates) ≡ length (now amounts) ⌝ }
     requires { ⌜ length (now awards) ≡ length (now amounts) ⌝ }
@@ -116,7 +116,7 @@ fn allot_limited(
 }
 
 // Allots an offer to bids, cut where a limit cuts, and writes the awards, in book order; refused, it writes nothing. Condition 16 looks at the bids
-// as they came, and bids that no limit cuts are not copied.
+// as they came, and where nobody is capped nothing is copied.
 pub fn allot(
     o: Offer,
     limits: &[u64],

@@ -1,4 +1,4 @@
-// Credit limits on investments: whether they cut, and the bids cut to them.
+// Credit limits on investments: who is capped, and the bids cut to the limits.
 pub mod internal;
 
 use announcement::Side;
@@ -8,7 +8,7 @@ ghost use Rattle.rules.specs.Cuts.{isCapped};
 ghost use Rattle.rules.specs.Opening.{any};
 ghost use Rattle.offer.specs.Viewed.{viewed};
 
-// Whether a limit cuts: the Treasury invests and the limit is not zero.
+// Whether a limit caps: the Treasury invests and the limit is not zero.
 pub fn is_capped(o: Offer, cap: u64) -> bool
     ensures { λ r. ⌜ r ≡ isCapped (viewed o) cap ⌝ }
 {
@@ -19,7 +19,7 @@ pub fn is_capped(o: Offer, cap: u64) -> bool
     }
 }
 
-// Whether any of the limits cuts.
+// Whether any of the limits caps.
 pub fn any_capped(o: Offer, limits: &[u64]) -> bool
     ensures { λ r. ⌜ r ≡ any (isCapped (viewed o)) (now (limits .entry)) ⌝ }
 {

@@ -121,7 +121,7 @@ unfoldable pub calledRows : List Row
 calledRows =
     -- 40000 of 90001 and 100000 of 90003 share 100000
     row 2 (limitedAwards announcement (40000 ∷ 0 ∷ 0 ∷ [])) (tens ((28572 ∷ []) ∷ [] ∷ (71428 ∷ []) ∷ []) ++ (120000 ∷ []))
-    -- a cut below the minimum stays; the second bid of 90001 is cut to it
+    -- what is left below the minimum stays: 5000 of the second bid of 90001
     ∷ row 2 (limitedAwards announcement (65000 ∷ 0 ∷ 5000 ∷ [])) (tens ((60000 ∷ 5000 ∷ []) ∷ [] ∷ (5000 ∷ []) ∷ []))
     -- the limits of the other codes cut nothing of theirs
     ∷ row 2 (limitedAwards announcement (0 ∷ 1 ∷ 0 ∷ [])) (tens ((30000 ∷ 20000 ∷ []) ∷ [] ∷ (50000 ∷ []) ∷ []) ++ (120000 ∷ []))

@@ -27,7 +27,7 @@ pub record Within (t : Turn) (input : List ℕ) : Type 0 where
   pub ordered : t .from ≤ t .to
   pub inside : t .to ≤ length input
 
--- the journal of a turn: its standing with the 65 codes and the 1,496 words that a run left
+-- the journal of a turn: its standing with the 65 codes and the words of a tender that a run left
 pub record Journal (t : Turn) (codes words : List ℕ) : Type 0 where
   pub given : Given (t .standing) words
   pub codes-length : length codes ≡ 65
