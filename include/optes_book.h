@@ -62,7 +62,8 @@ extern "C" {
 // seldom needs these. Each pointer is followed by how many elements it points to. An array that is told
 // numbers gets as many of them as it has room for, from the first on, and any entries past them stay as they
 // were. Words past OPTES_BOOK_WORDS are not looked at. Fewer are OPTES_NO_TENDER, which comes before every
-// other refusal; optes_words_open asks nothing else of the words, and sets all of them.
+// other refusal; optes_words_open asks nothing else of the words, and sets all of them. A later version may have
+// more arguments under the same name, so declare these calls from the header of the archive's own version.
 uint64_t optes_words_open(uint64_t *words, size_t count, const uint8_t *m, size_t n, const uint32_t *codes,
     size_t admitted, const uint64_t *limits, size_t limited);
 uint64_t optes_words_receive(uint64_t *words, size_t count, const uint8_t *m, size_t n, uint64_t date,
@@ -146,9 +147,9 @@ static inline uint64_t optes_book_open(struct optes_book *b, const uint8_t *m, s
 
 // Opens a tender with credit limits, which cap what the Treasury lends to each counterparty in LP: one for each
 // code, in the order of the codes, at most OPTES_BOOK_LIMIT_MOST each, and 0 for a counterparty that is not
-// capped. Before the awards the bids of each counterparty within the limit rate are cut, best rate first and
-// equal rates by place, so that they stay within its limit. In LA the limits are taken and cut nothing. Refused
-// with 1 to 7, 19 and 20.
+// capped. Before the awards the bids of each counterparty within the limit rate are walked, best rate first and
+// equal rates by place: each keeps what the limit still leaves, and one that is left nothing is no bid any more. In
+// LA the limits are taken and cut nothing. Refused with 1 to 7, 19 and 20.
 static inline uint64_t optes_book_open_limits(struct optes_book *b, const uint8_t *m, size_t n,
     const uint32_t *codes, size_t count, const uint64_t *limits, size_t limit_count)
 {

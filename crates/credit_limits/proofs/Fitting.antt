@@ -1,14 +1,14 @@
 -- A bid that fits stays as it is, and an only bid is cut to the cap. Assumes nothing.
 use mathlib.Core.Path.{_≡_, refl, sym, _∙_, ap, ap₂}
-use mathlib.Core.Bool.{Bool, true, false, cond, _&&_, and-false}
+use mathlib.Core.Bool.{Bool, true, false, cond, _&&_, and-false, false≢true}
 use mathlib.Core.List.{List, [], _∷_, _++_, append-assoc, append-nil}
-use Prim.Native.Nat.{ℕ, zero, suc, _+_, _-_, _≤_}
+use Prim.Native.Nat.{ℕ, zero, suc, _+_, _-_, _≤_, _<_, min}
 use native.Mathlib.Omega.{arith}
 use lib.Dec.{ltb}
 use lib.ListN.{getD, take, replicate}
-use borrow.Author.Tests.{ltb-true}
+use borrow.Author.Tests.{ltb-true, ltb-false}
 use Rattle.rules.specs.Allotment.{Bid, noBid, filled, Offer, isIn, isBetter, keep, total, totalBetter, totalEqual}
-use Rattle.rules.specs.Cuts.{isCapped, cutTo, cutAbove, leftOfCap, cutBid, cutFrom, cutBids}
+use Rattle.rules.specs.Cuts.{invests, isCapped, cutTo, cutAbove, leftOfCap, cutBid, cutFrom, cutBids}
 use Rattle.rules.proofs.Kept.{total-cons}
 use Rattle.rules.proofs.Rates.{not-itself}
 use Rattle.rules.proofs.Absent.{better}
@@ -75,8 +75,23 @@ module _ (o : Offer) (cap : ℕ) (b : Bid) (n : ℕ) where
   alone-cut inside =
       ap (λ (t : Bool). cond t (cutAbove (leftOfCap o cap alone [] b) b) b) inside ∙ ap (λ (m : ℕ). cutAbove m b) all-left
 
+-- of a bid there is left the smaller of a cap and its amount
+cap-not-zero : (o : Offer) (cap : ℕ) → isCapped o cap ≡ true → 0 < cap
+unfolding isCapped
+cap-not-zero o zero h = absurd (false≢true (sym (and-false (invests (o .side))) ∙ h))
+cap-not-zero o (suc cap) h = omega arith
+
+smaller-left : (cap : ℕ) (b : Bid) → 0 < cap → cutAbove cap b ≡ record { rate = b .rate; amount = min cap (b .amount) }
+unfolding cutAbove cutTo
+smaller-left zero b h = absurd (omega arith)
+smaller-left (suc cap) b h = go (ltb (suc cap) (b .amount)) refl
+  where
+    go : (t : Bool) → ltb (suc cap) (b .amount) ≡ t → cond t (record { rate = b .rate; amount = suc cap }) b ≡ record { rate = b .rate; amount = min (suc cap) (b .amount) }
+    go true e = ap (λ (n : ℕ). record { rate = b .rate; amount = n }) (let l = ltb-true (suc cap) (b .amount) e in let m : suc cap ≡ min (suc cap) (b .amount) = omega (arith, l) in m)
+    go false e = ap (λ (n : ℕ). record { rate = b .rate; amount = n }) (let l = ltb-false (suc cap) (b .amount) e in let m : b .amount ≡ min (suc cap) (b .amount) = omega (arith, l) in m)
+
 pub only-bid-cut : OnlyBidCut
 unfolding cutFrom
 only-bid-cut o cap b n capped inside =
     bids-cut o cap (b ∷ replicate n noBid) capped
-    ∙ ap₂ (λ (c : Bid) (l : List Bid). c ∷ l) (alone-cut o cap b n inside) (rest-empty o cap b n (b ∷ replicate n noBid) (b ∷ []) n)
+    ∙ ap₂ (λ (c : Bid) (l : List Bid). c ∷ l) (alone-cut o cap b n inside ∙ smaller-left cap b (cap-not-zero o cap capped)) (rest-empty o cap b n (b ∷ replicate n noBid) (b ∷ []) n)

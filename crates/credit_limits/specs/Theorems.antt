@@ -6,7 +6,7 @@ use Prim.Native.Nat.{ℕ, _+_, _*_, _≤_, _<_, min}
 use lib.ListN.{length, getD, take, drop, replicate}
 use Rattle.announcement.specs.declared.Side.the-variants.{La}
 use Rattle.rules.specs.Allotment.{Bid, noBid, filled, Offer, isIn, total, totalBetter, totalEqual, totalIn, awards, sum}
-use Rattle.rules.specs.Cuts.{isCapped, cutAbove, cutBids, cutBook}
+use Rattle.rules.specs.Cuts.{isCapped, cutBids, cutBook}
 use Rattle.rules.specs.Opening.{any}
 use Rattle.credit_limits.specs.Walk.{walkedBids}
 
@@ -71,13 +71,13 @@ FittingStay =
     → totalBetter o bs (getD bs k noBid .rate) + totalEqual o (take k bs) (getD bs k noBid .rate) + getD bs k noBid .amount ≤ cap
     → getD (cutBids o cap bs) k noBid ≡ getD bs k noBid
 
--- 'and no further': a counterparty's only bid is cut to the cap itself
+-- 'and no further': of a counterparty's only bid there is left the smaller of the cap and its amount
 abbrev pub OnlyBidCut : Type 0
 OnlyBidCut =
     (o : Offer) (cap : ℕ) (b : Bid) (n : ℕ)
     → isCapped o cap ≡ true
     → isIn o b ≡ true
-    → cutBids o cap (b ∷ replicate n noBid) ≡ cutAbove cap b ∷ replicate n noBid
+    → cutBids o cap (b ∷ replicate n noBid) ≡ record { rate = b .rate; amount = min cap (b .amount) } ∷ replicate n noBid
 
 -- 'within the cap', or 'uncapped': what is left of a code's total
 unfoldable pub withinCap : Offer → ℕ → ℕ → ℕ

@@ -53,6 +53,11 @@ cutAmounts side cap ps = map amount (bidsTaken (limitedTo side 100000 100 (cap �
 unfoldable pub twoCodes : Terms → Pairs → Pairs → List ℕ
 twoCodes t a b = take 20 (allotment t (places (a ∷ b ∷ [])) .awards) ++ listOf (allotment t (places (a ∷ b ∷ [])) .marginal)
 
+-- the awards of 64 codes of which the fourth and the last bid 100
+unfoldable pub manyAwards : ℕ → List ℕ → List ℕ
+manyAwards offered limits =
+    allotment (limitedTo Lp 100000 offered limits) (places (replicate 3 [] ++ (((120000, 100) ∷ []) ∷ []) ++ replicate 59 [] ++ (((120000, 100) ∷ []) ∷ []))) .awards
+
 unfoldable pub cutRows : List Row
 cutRows =
     -- best first, whatever the place
@@ -76,6 +81,10 @@ cutRows =
     -- the highest limit
     ∷ row 2 (cutAmounts Lp 999999999999999 ((120000, 1) ∷ (130000, 999999999999999) ∷ [])) (0 ∷ 999999999999999 ∷ [])
     ∷ row 2 (cutAmounts Lp 999999999999999 ((120000, 2) ∷ (130000, 999999999999998) ∷ [])) (1 ∷ 999999999999998 ∷ [])
+    -- all ten places are walked, the tenth among them
+    ∷ row 2 (cutAmounts Lp 55 (replicate 9 (120000, 10) ++ ((130000, 10) ∷ []))) (10 ∷ 10 ∷ 10 ∷ 10 ∷ 5 ∷ 0 ∷ 0 ∷ 0 ∷ 0 ∷ 10 ∷ [])
+    -- a rate of zero is one, where the limit rate is zero
+    ∷ row 2 (map amount (bidsTaken (limitedTo Lp 0 100 (40 ∷ [])) (map bid ((0, 30) ∷ (120000, 30) ∷ [])))) (10 ∷ 30 ∷ [])
     ∷ []
 
 -- the awards of ten places of each of two codes, and the marginal rate, if there is one
@@ -97,6 +106,8 @@ wholeRows =
     -- source document 002, example 2.c: 760 million awarded, and document 01's marginal rate is none; its rates are rounded to two decimals
     ∷ row 2 (twoCodes (limitedTo Lp 81700 100000000000 (0 ∷ 25000000000 ∷ [])) ((171000, 1000000000) ∷ (131000, 50000000000) ∷ (80000, 1000000000) ∷ []) ((131000, 29000000000) ∷ (112000, 15000000000) ∷ (106000, 10000000000) ∷ []))
     (tens ((1000000000 ∷ 50000000000 ∷ 0 ∷ []) ∷ (25000000000 ∷ 0 ∷ 0 ∷ []) ∷ []))
+    -- of 64 codes the fourth and the last are capped, and each bids 100
+    ∷ row 2 (manyAwards 200 (replicate 3 0 ++ (40 ∷ []) ++ replicate 59 0 ++ (50 ∷ []))) (tens (replicate 3 [] ++ ((40 ∷ []) ∷ []) ++ replicate 59 [] ++ ((50 ∷ []) ∷ [])))
     ∷ row 2 (sum (twoCodes (limitedTo Lp 81700 100000000000 (0 ∷ 25000000000 ∷ [])) ((171000, 1000000000) ∷ (131000, 50000000000) ∷ (80000, 1000000000) ∷ []) ((131000, 29000000000) ∷ (112000, 15000000000) ∷ (106000, 10000000000) ∷ [])) ∷ []) (76000000000 ∷ [])
     ∷ []
 

@@ -96,6 +96,9 @@ openingRows =
     ∷ row 20 (limited admitted (0 ∷ 1000000000000000 ∷ 0 ∷ [])) (20 ∷ [])
     ∷ row 20 (limited admitted (0 ∷ 0 ∷ 1000000000000000 ∷ [])) (20 ∷ [])
     ∷ row 20 (limited admitted (999999999999999 ∷ 1 ∷ 0 ∷ [])) []
+    ∷ row 19 (limited (take 64 rising65) (replicate 63 0)) (19 ∷ [])
+    ∷ row 20 (limited (take 64 rising65) (replicate 63 0 ++ (1000000000000000 ∷ []))) (20 ∷ [])
+    ∷ row 20 (limited (take 64 rising65) (replicate 63 0 ++ (999999999999999 ∷ []))) []
     -- in LA too
     ∷ row 19 (limitedIn (TenderType is "NC/FD/LA/R/Y/VR/MR" ∷ []) admitted (1 ∷ [])) (19 ∷ [])
     ∷ row 20 (limitedIn (TenderType is "NC/FD/LA/R/Y/VR/MR" ∷ []) admitted (1000000000000000 ∷ 0 ∷ 0 ∷ [])) (20 ∷ [])
