@@ -1,0 +1,3 @@
+pub mod Minimum
+pub mod Events
+pub mod Lent
