@@ -11,13 +11,15 @@ pub fn cut(offer: &Offer, mut bids: Vec<PlacedBid>, cap: Amount) -> Vec<PlacedBi
     }
     bids.retain(|placed| offer.is_in(placed.bid.rate));
     bids.sort_unstable_by(|a, b| offer.order(a, b));
-    let mut total = 0;
-    for placed in &mut bids {
-        let amount = placed.bid.amount.0.min(cap.0 - total);
-        placed.bid.amount = Amount(amount);
-        total += amount;
-    }
-    bids.retain(|placed| placed.bid.amount.0 > 0);
+    let mut left = cap.0;
+    bids.retain_mut(|placed| {
+        let before = placed.bid.amount.0;
+        let kept = before.min(left);
+        left -= kept;
+        placed.bid.amount = Amount(kept);
+        // A bid of no amount is not cut, so that it stays.
+        kept > 0 || before == 0
+    });
     bids
 }
 
@@ -77,6 +79,25 @@ mod tests {
     fn bids_outside_the_limit_rate_are_not_walked() {
         let bids = [(999, 40), (1000, 30)];
         assert_eq!(left(Side::Invests, 50, &bids), [(1, 30)]);
+    }
+
+    #[test]
+    fn a_bid_of_no_amount_is_not_cut() {
+        let bids = [(2000, 0), (2000, 10), (2000, 10), (1000, 0)];
+        assert_eq!(left(Side::Invests, 10, &bids), [(0, 0), (1, 10), (3, 0)]);
+    }
+
+    #[test]
+    fn a_bid_of_no_amount_is_in_line_for_a_cent() {
+        let offer = Offer { side: Side::Invests, amount: Amount(11), limit: Rate(100_000) };
+        let placed = |(position, amount)| PlacedBid {
+            position,
+            bid: Bid { rate: Rate(120_000), amount: Amount(amount) },
+        };
+        let mut bids = cut(&offer, [(0, 0), (1, 10)].map(placed).to_vec(), Amount(1000));
+        bids.push(placed((10, 10)));
+        let awards = offer.allot(&mut bids).awards;
+        assert_eq!([0, 1, 10].map(|position| awards[position].0), [1, 5, 5]);
     }
 
     #[test]
