@@ -30,7 +30,7 @@ pub const DEFAULT_COUNT: u64 = 20_000;
 mod tests {
     use super::comparison::Comparison;
     use super::drawn::Drawn;
-    use super::faults::{Faulty, FAULTS};
+    use super::faults::{Faulty, FAULTS, NO_FAULT};
     use super::independent_book::IndependentBook;
     use super::library_book::LibraryBook;
     use super::reduce::difference;
@@ -61,42 +61,70 @@ mod tests {
         assert_ne!(generate::sequence(7), generate::sequence(8));
     }
 
-    /// How many steps are left of the first sequence that shows the fault; its script shows it, too.
-    fn steps_for<const FAULT: usize>() -> usize {
+    /// The number of the sequence that shows the fault, and how many steps are left of it; its script
+    /// shows the fault, too.
+    fn shown<const FAULT: usize>(first: u64) -> (u64, usize) {
         let fault = FAULTS[FAULT];
         let mut comparison = Comparison::<Faulty<FAULT>>::default();
-        let Err(differs) = comparison.compare(DEFAULT_SEED, 2000) else {
-            panic!("{fault}: not found")
+        let Err(differs) = comparison.compare(DEFAULT_SEED + first, 2000 - first) else {
+            panic!("{fault}: not found from sequence {first} on")
         };
         let script = script::steps(&differs.script()).expect("the script can be read");
         assert!(difference::<Faulty<FAULT>>(&script).is_some(), "{fault}: not in the script");
         assert!(difference::<IndependentBook>(&script).is_none(), "{fault}: found without it");
-        script.len()
+        (differs.seed - DEFAULT_SEED, script.len())
+    }
+
+    /// How many sequences it takes until one shows the fault in few steps.
+    fn sequences_for<const FAULT: usize>() -> u64 {
+        let (mut last, mut steps) = shown::<FAULT>(0);
+        while steps > 5 {
+            (last, steps) = shown::<FAULT>(last + 1);
+        }
+        last + 1
+    }
+
+    #[test]
+    fn the_book_of_the_faults_differs_by_them_alone() {
+        let mut comparison = Comparison::<Faulty<NO_FAULT>>::default();
+        if let Err(differs) = comparison.compare(DEFAULT_SEED, DEFAULT_COUNT / 10) {
+            panic!("{}", differs.script());
+        }
     }
 
     #[test]
     fn every_fault_is_found_and_told_in_few_steps() {
-        let steps = [
-            steps_for::<0>(),
-            steps_for::<1>(),
-            steps_for::<2>(),
-            steps_for::<3>(),
-            steps_for::<4>(),
-            steps_for::<5>(),
-            steps_for::<6>(),
-            steps_for::<7>(),
-            steps_for::<8>(),
-            steps_for::<9>(),
-            steps_for::<10>(),
-            steps_for::<11>(),
-            steps_for::<12>(),
-            steps_for::<13>(),
-            steps_for::<14>(),
-            steps_for::<15>(),
-            steps_for::<16>(),
-            steps_for::<17>(),
+        let sequences = [
+            sequences_for::<0>(),
+            sequences_for::<1>(),
+            sequences_for::<2>(),
+            sequences_for::<3>(),
+            sequences_for::<4>(),
+            sequences_for::<5>(),
+            sequences_for::<6>(),
+            sequences_for::<7>(),
+            sequences_for::<8>(),
+            sequences_for::<9>(),
+            sequences_for::<10>(),
+            sequences_for::<11>(),
+            sequences_for::<12>(),
+            sequences_for::<13>(),
+            sequences_for::<14>(),
+            sequences_for::<15>(),
+            sequences_for::<16>(),
+            sequences_for::<17>(),
+            sequences_for::<18>(),
+            sequences_for::<19>(),
+            sequences_for::<20>(),
+            sequences_for::<21>(),
+            sequences_for::<22>(),
+            sequences_for::<23>(),
+            sequences_for::<24>(),
+            sequences_for::<25>(),
         ];
-        assert_eq!(steps.len(), FAULTS.len());
-        assert!(steps.iter().all(|&steps| steps <= 5), "{steps:?}");
+        assert_eq!(sequences.len(), FAULTS.len());
+        for (fault, sequences) in FAULTS.iter().zip(sequences) {
+            println!("{fault}: {sequences} sequences");
+        }
     }
 }

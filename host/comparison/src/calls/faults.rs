@@ -1,5 +1,8 @@
 //! A book with one fault, to see that the comparison finds it.
 
+mod walks;
+
+use self::walks::{allot_accepted, allot_changed, shift_limits, uncap, Walk};
 use crate::calls::book::{Book, NO_TENDER, OK, WORDS};
 use crate::calls::independent_book::IndependentBook as Right;
 use crate::calls::layout::{self, LIMITS, STATE};
@@ -7,9 +10,10 @@ use crate::calls::script::parted::Parted;
 use independent::address::{first_five, Address};
 use independent::application::{Application, Field};
 use independent::award::Side;
+use independent::tender::Tender;
 
 /// The faults, by their numbers.
-pub const FAULTS: [&str; 18] = [
+pub const FAULTS: [&str; 26] = [
     "a byte of a confirmation is wrong",
     "a byte past a reply changes",
     "the time of an application with an error is held",
@@ -28,7 +32,17 @@ pub const FAULTS: [&str; 18] = [
     "20 comes before 19",
     "a limit of fifteen nines is refused",
     "the limits are told of other codes",
+    "the bids are walked in the order of their places",
+    "equal rates are walked from the last place",
+    "a bid that does not fit whole is skipped",
+    "a bid cut to zero stays in line for a cent",
+    "the limits cut in LA",
+    "the limits cut other codes",
+    "the marginal rate is that of the uncut bids",
+    "16 looks at the cut bids",
 ];
+/// The number of no fault.
+pub const NO_FAULT: usize = FAULTS.len();
 
 /// A book with the fault of this number.
 pub struct Faulty<const FAULT: usize>;
@@ -75,15 +89,33 @@ fn move_cent(awards: &mut [u64]) {
     }
 }
 
-/// Allots as if nobody were capped.
-fn allot_uncapped(words: &mut [u64], awards: &mut [u64], told: &mut [u64]) -> u64 {
-    let mut uncapped = words.to_vec();
-    uncapped.iter_mut().skip(LIMITS).take(64).for_each(|limit| *limit = 0);
-    let result = Right::allot(&mut uncapped, awards, told);
-    if result == OK {
-        words[STATE] = uncapped[STATE];
+/// The walk of a book with the fault.
+fn walk<const FAULT: usize>() -> Walk {
+    let right = walks::RIGHT;
+    match FAULT {
+        18 => Walk { order: |_, a, b| a.position.cmp(&b.position), ..right },
+        19 => Walk { order: walks::last_place_first, ..right },
+        20 => Walk { step: |amount, left| if amount <= left { amount } else { 0 }, ..right },
+        21 => Walk { stays: |_, _| true, ..right },
+        22 => Walk { is_capped: |_| true, ..right },
+        _ => right,
     }
-    result
+}
+
+/// Allots as a book with the fault does.
+fn allot<const FAULT: usize>(words: &mut [u64], awards: &mut [u64], told: &mut [u64]) -> u64 {
+    let cut = |tender: &mut Tender| walk::<FAULT>().cut(tender);
+    match FAULT {
+        13 | 14 => allot_changed(words, awards, told, uncap),
+        18..=22 | NO_FAULT => allot_accepted(words, awards, told, cut),
+        23 => allot_changed(words, awards, told, shift_limits),
+        24 => {
+            allot_changed(&mut words.to_vec(), &mut [], told, uncap);
+            Right::allot(words, awards, &mut [])
+        }
+        25 => allot_changed(words, awards, told, cut),
+        _ => Right::allot(words, awards, told),
+    }
 }
 
 /// Cuts the awards of each code, in the order of its places, so that they stay within its limit. In LA
@@ -160,9 +192,7 @@ impl<const FAULT: usize> Book for Faulty<FAULT> {
     }
 
     fn allot(words: &mut [u64], awards: &mut [u64], told: &mut [u64]) -> u64 {
-        let is_uncapped = FAULT == 13 || FAULT == 14;
-        let allot = if is_uncapped { allot_uncapped } else { Right::allot };
-        let result = allot(words, awards, told);
+        let result = allot::<FAULT>(words, awards, told);
         match FAULT {
             14 if result == OK => cut_awards(words, awards),
             3 if result == OK => move_cent(awards),
