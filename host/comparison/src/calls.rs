@@ -51,7 +51,7 @@ mod tests {
         for seed in DEFAULT_SEED..DEFAULT_SEED + DEFAULT_COUNT / 10 {
             drawn.count(&generate::sequence(seed));
         }
-        assert_eq!(drawn.counts.len(), 45, "each boundary was looked for: {:?}", drawn.counts);
+        assert_eq!(drawn.counts.len(), 63, "each boundary was looked for: {:?}", drawn.counts);
         assert!(drawn.counts.values().all(|&count| count >= 20), "{:?}", drawn.counts);
     }
 
@@ -121,6 +121,7 @@ mod tests {
             sequences_for::<23>(),
             sequences_for::<24>(),
             sequences_for::<25>(),
+            sequences_for::<26>(),
         ];
         assert_eq!(sequences.len(), FAULTS.len());
         for (fault, sequences) in FAULTS.iter().zip(sequences) {

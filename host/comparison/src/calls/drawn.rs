@@ -2,8 +2,9 @@
 
 use crate::addresses::shown::long_addresses;
 use crate::calls::book::WORDS;
+use crate::calls::cuts;
 use crate::calls::independent_book::IndependentBook;
-use crate::calls::layout::{self, AMOUNTS, CODES, COUNT, FORM, LIMITS, STATE};
+use crate::calls::layout::{self, AMOUNTS, CODES, COUNT, FORM, LIMITS, OFFERED, STATE};
 use crate::calls::padded;
 use crate::calls::step::{Call, Given, Step};
 use crate::sessions::days::{day_after, day_before, seconds_away};
@@ -31,7 +32,7 @@ impl Drawn {
             let before = words.clone();
             step.sets.iter().for_each(|&(word, value)| words.all_mut()[word] = value);
             self.count_lent(step);
-            let tender = layout::tender_of(before.first(WORDS));
+            let tender = layout::tender_of(words.first(WORDS));
             let given = step.call::<IndependentBook>(&mut words);
             if let Some(tender) = tender {
                 self.count_call(step, &tender, &given);
@@ -57,6 +58,7 @@ impl Drawn {
         self.add("another form", set(FORM, FORM));
         self.add("another state", set(STATE, STATE));
         self.add("another count", set(COUNT, COUNT));
+        self.add("another offer", set(OFFERED, OFFERED));
         self.add("codes that do not rise", set(CODES, CODES + 63));
         self.add("amounts in the words", set(AMOUNTS, AMOUNTS + POSITIONS - 1));
         self.add("limits in the words", set(LIMITS, LIMITS + MOST_CODES - 1));
@@ -121,6 +123,8 @@ impl Drawn {
         self.add("a bid at the limit rate", at_limit);
         let is_out = bids().any(|bid| bid.is_filled() && !offer.is_in(bid.rate));
         self.add("a bid beyond the limit rate", is_out);
+        let cuts = cuts::shown(tender);
+        cuts::names().for_each(|name| self.add(name, cuts.contains(&name)));
     }
 
     fn count_clock(&mut self, clock: (u64, u64), tender: &Tender) {

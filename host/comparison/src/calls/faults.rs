@@ -13,7 +13,7 @@ use independent::award::Side;
 use independent::tender::Tender;
 
 /// The faults, by their numbers.
-pub const FAULTS: [&str; 26] = [
+pub const FAULTS: [&str; 27] = [
     "a byte of a confirmation is wrong",
     "a byte past a reply changes",
     "the time of an application with an error is held",
@@ -40,6 +40,7 @@ pub const FAULTS: [&str; 26] = [
     "the limits cut other codes",
     "the marginal rate is that of the uncut bids",
     "16 looks at the cut bids",
+    "a bid of no amount drops out",
 ];
 /// The number of no fault.
 pub const NO_FAULT: usize = FAULTS.len();
@@ -98,6 +99,7 @@ fn walk<const FAULT: usize>() -> Walk {
         20 => Walk { step: |amount, left| if amount <= left { amount } else { 0 }, ..right },
         21 => Walk { stays: |_, _| true, ..right },
         22 => Walk { is_capped: |_| true, ..right },
+        26 => Walk { stays: |_, kept| kept > 0, ..right },
         _ => right,
     }
 }
@@ -107,7 +109,7 @@ fn allot<const FAULT: usize>(words: &mut [u64], awards: &mut [u64], told: &mut [
     let cut = |tender: &mut Tender| walk::<FAULT>().cut(tender);
     match FAULT {
         13 | 14 => allot_changed(words, awards, told, uncap),
-        18..=22 | NO_FAULT => allot_accepted(words, awards, told, cut),
+        18..=22 | 26.. => allot_accepted(words, awards, told, cut),
         23 => allot_changed(words, awards, told, shift_limits),
         24 => {
             allot_changed(&mut words.to_vec(), &mut [], told, uncap);

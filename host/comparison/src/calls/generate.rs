@@ -1,7 +1,11 @@
 //! Sequences of calls that aim at the boundaries of document 01's rules.
 
-use crate::calls::layout::AMOUNTS;
+use crate::calls::book::WORDS;
+use crate::calls::cuts;
+use crate::calls::independent_book::IndependentBook;
+use crate::calls::layout::{self, AMOUNTS, LIMITS, OFFERED};
 use crate::calls::limits;
+use crate::calls::padded;
 use crate::calls::step::{Call, Step};
 use crate::calls::twist;
 use crate::random::Random;
@@ -47,6 +51,20 @@ pub fn sequence(seed: u64) -> Vec<Step> {
     sequence.steps
 }
 
+/// The tender that the steps leave, or none.
+fn held_after(steps: &[Step]) -> Option<Tender> {
+    let mut words = padded::numbers(WORDS);
+    for step in steps {
+        let before = words.clone();
+        step.sets.iter().for_each(|&(word, value)| words.all_mut()[word] = value);
+        let given = step.call::<IndependentBook>(&mut words);
+        if step.is_refused(given.result) {
+            words = before;
+        }
+    }
+    layout::tender_of(words.first(WORDS))
+}
+
 impl Sequence<'_> {
     /// Pushes a call, often with something else lent to it than what it needs.
     fn push(&mut self, call: Call) {
@@ -67,7 +85,7 @@ impl Sequence<'_> {
         let mut plan = plan(self.random);
         let codes: Vec<u32> = plan.codes.iter().map(|&code| code as u32).collect();
         let limits = limits::limits(self.random, &plan);
-        if self.random.one_in(2) {
+        if !self.random.one_in(8) {
             limits::aim(self.random, &mut plan, &limits);
         }
         self.push_opening(&plan, &codes, &limits);
@@ -137,11 +155,12 @@ impl Sequence<'_> {
         if self.random.one_in(6) {
             self.push_event(announcement);
         }
-        if self.random.one_in(8) {
-            self.push_full_book(codes);
-        }
-        if self.random.one_in(8) {
-            self.push_odd_limits(codes);
+        match self.random.below(16) {
+            0 | 1 => self.push_full_book(codes),
+            2..=5 => self.push_no_amounts(codes),
+            6 | 7 => self.push_odd_limits(codes),
+            8 | 9 => self.push_near_limits(),
+            _ => (),
         }
         let places = twist::places(self.random);
         self.push(Call::Allot { places });
@@ -175,12 +194,38 @@ impl Sequence<'_> {
         self.steps.push(step);
     }
 
+    /// Allots with zero for some of the amounts in the words, so that bids have a rate and no amount.
+    fn push_no_amounts(&mut self, codes: usize) {
+        let places = 0..(PLACES * codes).min(30);
+        let mut step = Step::new(Call::Allot { places: POSITIONS });
+        let emptied = places.filter(|_| self.random.one_in(4));
+        step.sets = emptied.map(|place| (AMOUNTS + place, 0)).collect();
+        self.steps.push(step);
+    }
+
     /// Asks or allots with limits in the words that no opening can bring there.
     fn push_odd_limits(&mut self, codes: usize) {
         let asks = self.random.one_in(2);
         let mut step =
             Step::new(if asks { Call::Limits } else { Call::Allot { places: POSITIONS } });
         step.sets = twist::limit_words(self.random, codes);
+        self.steps.push(step);
+    }
+
+    /// Allots with limits and an offer in the words that aim at what is held, and where they can move
+    /// the marginal rate, which few books allow.
+    fn push_near_limits(&mut self) {
+        let Some(mut tender) = held_after(&self.steps) else { return };
+        for _ in 0..8 {
+            limits::cap(self.random, &mut tender);
+            if cuts::shown(&tender).contains(&cuts::MOVED) {
+                break;
+            }
+        }
+        let mut step = Step::new(Call::Allot { places: POSITIONS });
+        let limits = tender.book.iter().map(layout::limit_number).enumerate();
+        step.sets = limits.map(|(index, limit)| (LIMITS + index, limit)).collect();
+        step.sets.push((OFFERED, tender.terms.offer.amount.0));
         self.steps.push(step);
     }
 

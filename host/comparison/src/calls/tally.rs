@@ -90,6 +90,6 @@ fn all() -> Vec<String> {
     let kinds = KINDS.iter().map(|kind| kind.to_string());
     let refusals = (1..=LAST_REFUSAL).chain(LIMIT_REFUSALS).chain([NO_TENDER]).map(refusal_name);
     let errors = ERRORS.into_iter().map(error_name);
-    let shown = NAMES.iter().chain(&cuts::NAMES).map(|name| name.to_string());
+    let shown = NAMES.into_iter().chain(cuts::names()).map(str::to_string);
     kinds.chain(refusals).chain(errors).chain(shown).collect()
 }
