@@ -86,7 +86,6 @@ void expect_call(const struct line *line, const struct step *step)
 static void admit(struct rehearsal *r, const struct bytes *held)
 {
     r->count = 0;
-    r->limited = false;
     for (size_t at = 0; at < held->length; at += CODE_DIGITS) {
         r->codes = grown(r->codes, r->count, &r->room, sizeof *r->codes);
         r->codes[r->count++] = (uint32_t)number_at(held->at + at, CODE_DIGITS);
@@ -95,6 +94,9 @@ static void admit(struct rehearsal *r, const struct bytes *held)
     for (size_t k = 0; k < r->count; k++)
         printf("%s%05" PRIu32, k % CODES_ON_A_LINE == 0 ? "\n        " : " ", r->codes[k]);
     putchar('\n');
+    if (r->limited)
+        puts("    the credit limits are dropped: nobody is capped");
+    r->limited = false;
 }
 
 // A pointer of a call may not be null, though there is nothing to point to.
@@ -119,7 +121,7 @@ static void keep_limits(struct rehearsal *r, const struct bytes *held)
     bytes_add(&r->limits, held->at, held->length);
     r->limited = true;
     const uint64_t *limits = kept_limits(r, &count);
-    printf("    credit limits kept for the next announcement: %zu\n", count);
+    printf("    credit limits kept for the announcements that follow: %zu\n", count);
     for (size_t k = 0; k < count; k++) {
         if (k < r->count)
             printf("        %05" PRIu32 "               ", r->codes[k]);

@@ -7,8 +7,8 @@
 #include "optes_book.h"
 #include "steps.h"
 
-// The tender, and the codes and limits for the next announcement; where no limits are given nobody is capped. The
-// book starts as {0}, without a tender.
+// The tender, and the codes and limits for the announcements that follow; where no limits are given nobody is capped.
+// The book starts as {0}, without a tender.
 struct rehearsal {
     struct optes_book book;
     uint32_t *codes;
