@@ -292,15 +292,18 @@ static wide total_up_to(const struct book *b, uint32_t rate)
     return sum;
 }
 
-// An offer of few cents, of exactly what some rate reaches, or of anything up to more than all bids.
+// An offer of few cents, of exactly what some rate reaches after the cuts, or of anything up to more than
+// all bids.
 static uint64_t random_offer(const struct book *b)
 {
+    struct book cut;
+    const struct book *bids = taken(b, &cut);
     wide all = total(b);
     switch (random_below(8)) {
     case 0:
         return random_below(3);
     case 1:
-        return (uint64_t)total_up_to(b, b->rates[random_below(PLACES)]);
+        return (uint64_t)total_up_to(bids, bids->rates[random_below(PLACES)]);
     default:
         return (uint64_t)(random_number() % (all + all / 8 + 2));
     }
@@ -342,8 +345,8 @@ static void random_book(struct book *b)
         b->rates[i] = filled ? (uint32_t)random_below(rates) * step : 0;
         b->amounts[i] = filled ? random_amount(small) : 0;
     }
-    b->offered = random_offer(b);
     random_limits(b);
+    b->offered = random_offer(b);
 }
 
 // A share as an allotment has it: the amount is part of the total, of which less is left of the offer.
@@ -382,31 +385,66 @@ static void fail_book(int k, const struct book *b, const struct allotment *libra
     exit(1);
 }
 
+// Compares the library with the reference, and both ways to find the marginal rate.
+static void compare_book(int k, const struct book *b, struct allotment *reference)
+{
+    struct allotment library;
+    memset(library.awards, 0xff, sizeof library.awards);
+    library_allot(b, &library);
+    reference_allot(b, reference);
+    if (library.marginal != reference->marginal
+        || memcmp(library.awards, reference->awards, sizeof library.awards) != 0)
+        fail_book(k, b, &library, reference);
+    if (scanned_marginal(b) != reference->marginal) {
+        fprintf(stderr, "bench: the marginal rate of book %d differs by a look at all places\n", k);
+        exit(1);
+    }
+}
+
+enum kind { MET, NOT_MET, REFUSED, CUT, CUT_EXACT, KINDS };
+static const char *const kind_names[KINDS] = {"offer met", "not met", "refused", "bids cut",
+    "cut bids exactly the offer"};
+
+// Counts the kinds of an allotment.
+static void count_kinds(unsigned counts[KINDS], const struct book *b, uint64_t marginal)
+{
+    counts[MET] += marginal < NO_RATE;
+    counts[NOT_MET] += marginal == NO_RATE;
+    counts[REFUSED] += marginal == EXCEEDS;
+    struct book cut;
+    const struct book *bids = taken(b, &cut);
+    if (marginal == EXCEEDS || memcmp(bids->amounts, b->amounts, sizeof b->amounts) == 0)
+        return;
+    counts[CUT]++;
+    counts[CUT_EXACT] += marginal < NO_RATE && total_up_to(bids, (uint32_t)marginal) == b->offered;
+}
+
+// Prints how many books there are of each kind, and stops where there is none.
+static void print_kinds(const unsigned counts[KINDS])
+{
+    printf("%d books equal:", BOOKS);
+    for (size_t i = 0; i < KINDS; i++) {
+        printf("%s %s in %u", i == 0 ? "" : ",", kind_names[i], counts[i]);
+        if (counts[i] == 0) {
+            fprintf(stderr, "bench: no book is of the kind: %s\n", kind_names[i]);
+            exit(1);
+        }
+    }
+    putchar('\n');
+}
+
 // Compares random books, and counts each kind of answer so that none is missing.
 static void compare_books(void)
 {
-    unsigned met = 0, not_met = 0, refused = 0, limited = 0;
+    unsigned counts[KINDS] = {0};
     for (int k = 0; k < BOOKS; k++) {
         struct book b;
-        struct allotment library, reference;
+        struct allotment reference;
         random_book(&b);
-        memset(library.awards, 0xff, sizeof library.awards);
-        library_allot(&b, &library);
-        reference_allot(&b, &reference);
-        if (library.marginal != reference.marginal
-            || memcmp(library.awards, reference.awards, sizeof library.awards) != 0)
-            fail_book(k, &b, &library, &reference);
-        if (scanned_marginal(&b) != reference.marginal) {
-            fprintf(stderr, "bench: the marginal rate of book %d differs by a look at all places\n", k);
-            exit(1);
-        }
-        met += reference.marginal < NO_RATE;
-        not_met += reference.marginal == NO_RATE;
-        refused += reference.marginal == EXCEEDS;
-        limited += b.lp && any_limit(&b);
+        compare_book(k, &b, &reference);
+        count_kinds(counts, &b, reference.marginal);
     }
-    printf("%d books equal: offer met in %u, not met in %u, refused in %u, limits in LP in %u\n", BOOKS,
-        met, not_met, refused, limited);
+    print_kinds(counts);
 }
 
 static void compare_shares(void)
