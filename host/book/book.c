@@ -77,6 +77,7 @@ int main(void)
     constants();
     texts();
     sizes();
+    lent_cases();
     cases(GUARD_AFTER);
     cases(GUARD_BEFORE);
     printf("book: %lu checks passed\n", checks);

@@ -15,4 +15,7 @@ void saving_cases(const struct desk *d);
 void struct_cases(const struct desk *d);
 void damage_cases(const struct desk *d);
 
+// The cases without a library, which need no buffers.
+void lent_cases(void);
+
 #endif
