@@ -61,6 +61,9 @@ mod tests {
         assert_ne!(generate::sequence(7), generate::sequence(8));
     }
 
+    /// The fault that the marginal rate is that of the uncut bids.
+    const LONGER: usize = 24;
+
     /// The number of the sequence that shows the fault, and how many steps are left of it; its script
     /// shows the fault, too.
     fn shown<const FAULT: usize>(first: u64) -> (u64, usize) {
@@ -75,13 +78,29 @@ mod tests {
         (differs.seed - DEFAULT_SEED, script.len())
     }
 
-    /// How many sequences it takes until one shows the fault in few steps.
-    fn sequences_for<const FAULT: usize>() -> u64 {
-        let (mut last, mut steps) = shown::<FAULT>(0);
-        while steps > 5 {
-            (last, steps) = shown::<FAULT>(last + 1);
+    /// How many steps are left of the first sequence that shows the fault.
+    fn steps_for<const FAULT: usize>() -> usize {
+        shown::<FAULT>(0).1
+    }
+
+    /// The most steps that may be left of the first sequence that shows a fault: 5, but 13 for the one
+    /// fault whose first sequence the reduction leaves longer.
+    fn most_steps(fault: &str) -> usize {
+        if fault == FAULTS[LONGER] {
+            13
+        } else {
+            5
         }
-        last + 1
+    }
+
+    #[test]
+    fn the_longer_fault_is_told_in_few_steps_later() {
+        let (mut last, mut steps) = shown::<LONGER>(0);
+        assert!(steps > 5, "the exception for it is not needed any more");
+        // Where no sequence is left this panics.
+        while steps > 5 {
+            (last, steps) = shown::<LONGER>(last + 1);
+        }
     }
 
     #[test]
@@ -94,38 +113,37 @@ mod tests {
 
     #[test]
     fn every_fault_is_found_and_told_in_few_steps() {
-        let sequences = [
-            sequences_for::<0>(),
-            sequences_for::<1>(),
-            sequences_for::<2>(),
-            sequences_for::<3>(),
-            sequences_for::<4>(),
-            sequences_for::<5>(),
-            sequences_for::<6>(),
-            sequences_for::<7>(),
-            sequences_for::<8>(),
-            sequences_for::<9>(),
-            sequences_for::<10>(),
-            sequences_for::<11>(),
-            sequences_for::<12>(),
-            sequences_for::<13>(),
-            sequences_for::<14>(),
-            sequences_for::<15>(),
-            sequences_for::<16>(),
-            sequences_for::<17>(),
-            sequences_for::<18>(),
-            sequences_for::<19>(),
-            sequences_for::<20>(),
-            sequences_for::<21>(),
-            sequences_for::<22>(),
-            sequences_for::<23>(),
-            sequences_for::<24>(),
-            sequences_for::<25>(),
-            sequences_for::<26>(),
+        let steps = [
+            steps_for::<0>(),
+            steps_for::<1>(),
+            steps_for::<2>(),
+            steps_for::<3>(),
+            steps_for::<4>(),
+            steps_for::<5>(),
+            steps_for::<6>(),
+            steps_for::<7>(),
+            steps_for::<8>(),
+            steps_for::<9>(),
+            steps_for::<10>(),
+            steps_for::<11>(),
+            steps_for::<12>(),
+            steps_for::<13>(),
+            steps_for::<14>(),
+            steps_for::<15>(),
+            steps_for::<16>(),
+            steps_for::<17>(),
+            steps_for::<18>(),
+            steps_for::<19>(),
+            steps_for::<20>(),
+            steps_for::<21>(),
+            steps_for::<22>(),
+            steps_for::<23>(),
+            steps_for::<24>(),
+            steps_for::<25>(),
+            steps_for::<26>(),
         ];
-        assert_eq!(sequences.len(), FAULTS.len());
-        for (fault, sequences) in FAULTS.iter().zip(sequences) {
-            println!("{fault}: {sequences} sequences");
-        }
+        assert_eq!(steps.len(), FAULTS.len());
+        let few = FAULTS.iter().zip(steps).all(|(fault, steps)| steps <= most_steps(fault));
+        assert!(few, "{steps:?}");
     }
 }
