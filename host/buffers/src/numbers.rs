@@ -1,0 +1,85 @@
+//! The numbers that stand as the lengths of arrays and the values of constants.
+
+use crate::program::Kind;
+use crate::remark::Read;
+use crate::tokens::Word;
+use crate::types::{Reader, Type};
+
+/// The operators in groups, those that bind least first.
+const OPERATORS: [&[&str]; 6] =
+    [&["|"], &["^"], &["&"], &["<<", ">>"], &["+", "-"], &["*", "/", "%"]];
+
+impl<'a> Reader<'a> {
+    pub fn number(&mut self) -> Read<u64> {
+        self.joined_by(0)
+    }
+
+    /// Numbers joined by the operators of one group and of those that bind more.
+    fn joined_by(&mut self, group: usize) -> Read<u64> {
+        let Some(operators) = OPERATORS.get(group) else {
+            return self.factor();
+        };
+        let mut value = self.joined_by(group + 1)?;
+        while let Word::Sign(sign) = self.cursor.word() {
+            if !operators.contains(sign) {
+                break;
+            }
+            self.cursor.step();
+            let right = self.joined_by(group + 1)?;
+            value = match applied(sign, value, right) {
+                Some(value) => value,
+                None => return self.cursor.fault("a number that leaves 64 bits"),
+            };
+        }
+        Ok(value)
+    }
+
+    fn factor(&mut self) -> Read<u64> {
+        let value = if let Word::Number(value, _) = self.cursor.word() {
+            self.cursor.step();
+            *value
+        } else if self.cursor.eat("(") {
+            let value = self.number()?;
+            self.cursor.expect(")")?;
+            value
+        } else {
+            let path = self.cursor.path()?;
+            match self.constant_named(&path)? {
+                Some(mut constant) => {
+                    constant.constant_type()?;
+                    constant.number()?
+                }
+                None => return self.nothing_says(&path),
+            }
+        };
+        while self.cursor.eat("as") {
+            self.read_type()?;
+        }
+        Ok(value)
+    }
+
+    /// The constant that a path names, by itself or as a type's own.
+    pub fn constant_named(&self, path: &[String]) -> Read<Option<Reader<'a>>> {
+        let mut found = self.named(path).map(|item| &self.program.items[item]);
+        if let (None, Some(Type::Declared(of))) = (found, self.owner_in(path)?) {
+            found = self.program.own_item(of, &path[path.len() - 1]);
+        }
+        let constant = found.filter(|item| item.kind == Kind::Constant);
+        Ok(constant.map(|item| Reader::new(self.program, item)))
+    }
+}
+
+fn applied(sign: &str, left: u64, right: u64) -> Option<u64> {
+    match sign {
+        "|" => Some(left | right),
+        "^" => Some(left ^ right),
+        "&" => Some(left & right),
+        "<<" => left.checked_mul(2u64.checked_pow(u32::try_from(right).ok()?)?),
+        ">>" => left.checked_shr(u32::try_from(right).ok()?),
+        "+" => left.checked_add(right),
+        "-" => left.checked_sub(right),
+        "*" => left.checked_mul(right),
+        "/" => left.checked_div(right),
+        _ => left.checked_rem(right),
+    }
+}

@@ -1,0 +1,134 @@
+//! Copies of the sources, in which something is planted. Each test uses a part of this.
+
+#![allow(dead_code)]
+
+use std::fs;
+use std::os::unix::fs::symlink;
+use std::path::{Path, PathBuf};
+use std::process::Command;
+use std::sync::atomic::{AtomicUsize, Ordering};
+
+/// Where most is planted.
+pub const REPLIES: &str = "crates/replies/src/internal.rt";
+
+static COPIES: AtomicUsize = AtomicUsize::new(0);
+
+pub fn repository() -> PathBuf {
+    Path::new(env!("CARGO_MANIFEST_DIR")).join("../..")
+}
+
+/// A copy of the repository's crates.txt and crates. Those that stay as they are stand in it as links.
+pub struct Copy {
+    root: PathBuf,
+}
+
+impl Copy {
+    pub fn new() -> Copy {
+        let number = COPIES.fetch_add(1, Ordering::Relaxed);
+        let name = format!("copy-{}-{number}", std::process::id());
+        let root = Path::new(env!("CARGO_TARGET_TMPDIR")).join(name);
+        fs::create_dir_all(root.join("crates")).unwrap();
+        fs::copy(repository().join("crates.txt"), root.join("crates.txt")).unwrap();
+        for entry in fs::read_dir(repository().join("crates")).unwrap() {
+            let folder = entry.unwrap();
+            symlink(folder.path(), root.join("crates").join(folder.file_name())).unwrap();
+        }
+        Copy { root }
+    }
+
+    /// Puts the sources themselves in place of the link to a crate.
+    fn own(&self, folder: &Path) {
+        let sources = fs::read_link(self.root.join(folder)).unwrap().join("src");
+        fs::remove_file(self.root.join(folder)).unwrap();
+        fs::create_dir_all(self.root.join(folder).join("src")).unwrap();
+        for entry in fs::read_dir(sources).unwrap() {
+            let file = entry.unwrap();
+            let copy = self.root.join(folder).join("src").join(file.file_name());
+            fs::copy(file.path(), copy).unwrap();
+        }
+    }
+
+    fn write(&self, path: &str, text: &str) {
+        let file = self.root.join(path);
+        let folder: PathBuf = Path::new(path).iter().take(2).collect();
+        if self.root.join(&folder).is_symlink() {
+            self.own(&folder);
+        }
+        fs::create_dir_all(file.parent().unwrap()).unwrap();
+        fs::write(file, text).unwrap();
+    }
+
+    /// Puts another text in place of one that stands once in a file.
+    pub fn replace(self, path: &str, old: &str, new: &str) -> Copy {
+        let text = fs::read_to_string(self.root.join(path)).unwrap();
+        assert_eq!(text.matches(old).count(), 1, "'{old}' in {path}");
+        self.write(path, &text.replace(old, new));
+        self
+    }
+
+    /// Puts a text at the end of a file, which need not be there yet.
+    pub fn append(self, path: &str, text: &str) -> Copy {
+        let before = fs::read_to_string(self.root.join(path)).unwrap_or_default();
+        self.write(path, &format!("{before}\n{text}\n"));
+        self
+    }
+
+    /// Adds a crate with one source, and its line at the end of crates.txt.
+    pub fn add_crate(self, name: &str, needs: &str, source: &str, text: &str) -> Copy {
+        self.write(&format!("crates/{name}/src/{source}"), text);
+        self.append("crates.txt", &format!("{name}: {needs}"))
+    }
+
+    /// The status of the program on this copy, and what it says.
+    fn run(&self) -> (Option<i32>, String) {
+        let program = env!("CARGO_BIN_EXE_buffers");
+        let output = Command::new(program).arg(&self.root).output().unwrap();
+        let said = [output.stdout, output.stderr].concat();
+        (output.status.code(), String::from_utf8(said).unwrap())
+    }
+
+    pub fn status(&self) -> Option<i32> {
+        self.run().0
+    }
+
+    pub fn passes(&self) {
+        let (status, said) = self.run();
+        assert_eq!(status, Some(0), "{said}");
+    }
+
+    /// It is refused, by a line that has this text. Gives all that is said.
+    pub fn is_refused(&self, text: &str) -> String {
+        let (status, said) = self.run();
+        assert_eq!(status, Some(1), "'{text}' is not refused");
+        assert!(said.lines().any(|line| line.contains(text)), "'{text}' is not in\n{said}");
+        said
+    }
+
+    /// It is read whole, and refused by lines of one file, of which one has this text.
+    pub fn is_refused_in(&self, path: &str, text: &str) {
+        for line in self.is_refused(&format!(": {text}")).lines() {
+            assert!(line.starts_with(&format!("buffers: {path}:")), "{line}");
+            assert!(!line.contains("cannot be read"), "{line}");
+        }
+    }
+}
+
+impl Drop for Copy {
+    fn drop(&mut self) {
+        let _ = fs::remove_dir_all(&self.root);
+    }
+}
+
+/// The text at the end of the sources of `replies` is refused there for this reason.
+pub fn refused(text: &str, reason: &str) {
+    Copy::new().append(REPLIES, text).is_refused_in(REPLIES, reason);
+}
+
+pub fn passes(text: &str) {
+    Copy::new().append(REPLIES, text).passes();
+}
+
+/// The text as the statements of a function.
+pub fn in_function(statements: &str) -> String {
+    format!("fn planted(m: &[u8]) {{ {statements} }}")
+}
