@@ -1,84 +1,44 @@
 //! The body of a function: its locals, and what it makes without a name.
 
-use std::ops::{Deref, DerefMut};
-
-use crate::remark::{Read, Remark};
+use crate::reader::Reader;
+use crate::remark::Read;
 use crate::tokens::Word;
-use crate::types::{Reader, Type};
+use crate::types::Type;
 
-/// What an expression comes to. What is made has no place yet, and takes one where it is lent,
-/// passed, taken apart, tested or dropped.
+/// What an expression comes to.
 pub struct Value {
     pub of: Type,
+    /// What is made has no place yet, and takes one where it is lent, passed, taken apart, tested or
+    /// dropped.
     pub made: bool,
+    /// The index of the local that it names.
+    pub local: Option<usize>,
 }
 
 pub fn made(of: Type) -> Value {
-    Value { of, made: true }
+    Value { of, made: true, local: None }
 }
 
 pub fn placed(of: Type) -> Value {
-    Value { of, made: false }
+    Value { of, made: false, local: None }
 }
 
-pub struct Body<'a> {
-    reader: Reader<'a>,
-    /// The locals in scope; one that is declared without a type and a value has no type yet.
-    pub locals: Vec<(String, Option<Type>)>,
-    /// The bytes of all locals, in scope or not, and of what is made without a name.
-    held: u64,
-    /// For each loop around, what it breaks with.
-    pub broken: Vec<Type>,
-    pub result: Type,
-    /// Whether a brace after a path begins the fields of a struct.
-    pub takes_fields: bool,
-}
-
-impl<'a> Deref for Body<'a> {
-    type Target = Reader<'a>;
-    fn deref(&self) -> &Reader<'a> {
-        &self.reader
-    }
-}
-
-impl<'a> DerefMut for Body<'a> {
-    fn deref_mut(&mut self) -> &mut Reader<'a> {
-        &mut self.reader
-    }
-}
-
-/// What may not stand in a function.
-pub fn read_function(mut reader: Reader) -> Read<Vec<Remark>> {
-    let (name, line) = (&reader.item.name, reader.cursor.line());
-    let (parameters, result) = reader.signature()?;
-    let mut body = Body::new(reader, result.clone());
-    for (name, of) in parameters {
-        body.bind(name, Some(of))?;
-    }
-    body.block(&result)?;
-    let held = body.held;
-    body.judge(line, &format!("fn {name} has locals of"), held);
-    Ok(body.reader.found)
-}
-
-/// What may not stand in a constant.
-pub fn read_constant(mut reader: Reader) -> Read<Vec<Remark>> {
-    let of = reader.constant_type()?;
-    let mut body = Body::new(reader, Type::Never);
-    body.expression(&of)?;
-    Ok(body.reader.found)
-}
-
-impl<'a> Body<'a> {
-    fn new(reader: Reader<'a>, result: Type) -> Body<'a> {
-        let (locals, broken) = (Vec::new(), Vec::new());
-        Body { reader, locals, held: 0, broken, result, takes_fields: true }
-    }
-
-    pub fn bind(&mut self, name: String, of: Option<Type>) -> Read<()> {
-        if let Some(of) = &of {
-            self.hold(of)?;
+impl Reader<'_> {
+    /// Reads a function, and judges its locals.
+    pub fn function(&mut self) -> Read<()> {
+        let line = self.cursor.line();
+        let (parameters, result) = self.signature()?;
+        for (name, of) in parameters {
+            self.bind(name, of)?;
         }
+        self.result = result.clone();
+        self.block(&result)?;
+        self.judge(line, &format!("fn {} has locals of", self.item.name), self.held);
+        Ok(())
+    }
+
+    pub fn bind(&mut self, name: String, of: Type) -> Read<()> {
+        self.hold(&of)?;
         self.locals.push((name, of));
         Ok(())
     }
@@ -96,13 +56,11 @@ impl<'a> Body<'a> {
         Ok(())
     }
 
-    /// Gives a local that has no type yet that of its first value.
-    pub fn settle(&mut self, name: &Word, of: &Type) -> Read<()> {
-        let Word::Name(name) = name else { return Ok(()) };
-        let local = self.locals.iter_mut().rev().find(|local| local.0 == *name);
-        if let Some((_, unset @ None)) = local {
-            *unset = Some(of.clone());
-            self.hold(of)?;
+    /// Gives a local whose type is not known yet that of a value.
+    pub fn settle(&mut self, local: usize, of: Type) -> Read<()> {
+        if let Type::Unset | Type::Untyped = self.locals[local].1 {
+            self.hold(&of)?;
+            self.locals[local].1 = of;
         }
         Ok(())
     }
@@ -110,7 +68,7 @@ impl<'a> Body<'a> {
     /// What is read inside brackets or braces, where a brace after a path begins fields again.
     pub fn inside<T>(&mut self, read: impl FnOnce(&mut Self) -> Read<T>) -> Read<T> {
         let took_fields = std::mem::replace(&mut self.takes_fields, true);
-        let read = read(self);
+        let read = self.deeper(read);
         self.takes_fields = took_fields;
         read
     }
@@ -120,21 +78,24 @@ impl<'a> Body<'a> {
         let in_scope = self.locals.len();
         self.cursor.expect("{")?;
         let mut last = made(Type::Other);
-        while !self.cursor.eat("}") {
-            last = self.inside(|body| body.statement(wanted))?;
+        let mut ends = false;
+        while !self.cursor.skip_if("}") {
+            last = self.inside(|reader| reader.statement(wanted))?;
+            ends |= last.of == Type::Never;
         }
         self.locals.truncate(in_scope);
-        Ok(last)
+        Ok(if ends { made(Type::Never) } else { last })
     }
 
     fn statement(&mut self, wanted: &Type) -> Read<Value> {
-        if self.cursor.eat("let") {
+        if self.cursor.skip_if("let") {
             self.let_statement()?;
             return Ok(made(Type::Other));
         }
-        let ends_itself = self.cursor.is_any(&["if", "match", "while", "loop", "for", "{"]);
+        let ends_itself = self.cursor.is_any(&["if", "match", "while", "loop", "for", "{"])
+            || matches!(self.cursor.word(), Word::Lifetime(_));
         let value = if ends_itself { self.primary(wanted)? } else { self.expression(wanted)? };
-        if !self.cursor.eat(";") || value.of == Type::Never {
+        if !self.cursor.skip_if(";") || value.of == Type::Never {
             return Ok(value);
         }
         self.hold_unnamed(&value)?;
@@ -143,33 +104,41 @@ impl<'a> Body<'a> {
 
     fn let_statement(&mut self) -> Read<()> {
         let pattern_at = self.cursor.at;
-        self.skip_pattern()?;
-        let mut of = None;
-        if self.cursor.eat(":") {
-            of = Some(self.read_type()?);
+        self.cursor.skip_to(&[":", "=", ";"])?;
+        let mut of = Type::Unset;
+        if self.cursor.skip_if(":") {
+            of = self.read_type()?;
         }
-        if self.cursor.eat("=") {
-            let value = self.expression(of.as_ref().unwrap_or(&Type::Untyped))?;
-            of = of.or(Some(value.of));
+        let mut value = placed(Type::Unset);
+        if self.cursor.skip_if("=") {
+            value = self.expression(&of)?;
+            if of == Type::Unset {
+                of = value.of.clone();
+            }
         }
-        if self.cursor.eat("else") {
+        if self.cursor.skip_if("else") {
             self.block(&Type::Never)?;
         }
         self.cursor.expect(";")?;
-        self.pattern_at(pattern_at, of.as_ref())
+        let takes_all = self.pattern_at(pattern_at, &of)?;
+        if !takes_all {
+            self.hold_unnamed(&value)?;
+        }
+        Ok(())
     }
 
     /// The test of a branch or a loop; the locals of its pattern come into scope.
     pub fn condition(&mut self) -> Read<()> {
-        if !self.cursor.eat("let") {
+        if !self.cursor.skip_if("let") {
             self.tested()?;
             return Ok(());
         }
         let pattern_at = self.cursor.at;
-        self.skip_pattern()?;
+        self.cursor.skip_to(&["="])?;
         self.cursor.expect("=")?;
         let of = self.tested()?.of;
-        self.pattern_at(pattern_at, Some(&of))
+        self.pattern_at(pattern_at, &of)?;
+        Ok(())
     }
 
     /// A value before a block, where a brace never begins fields.

@@ -25,11 +25,10 @@ pub fn crates_that_make_replies(root: &Path) -> io::Result<Vec<Used>> {
     if !lines.contains_key(REPLIES) {
         return Err(io::Error::other(format!("crates.txt has no crate {REPLIES}")));
     }
-    let is_above = |needs: &[String]| needs.iter().any(|needed| needed == REPLIES);
-    let makers = lines.iter().filter(|(name, (_, needs))| {
-        *name == REPLIES || is_above(needs) && !is_program(root, name)
-    });
-    let makers = makers.map(|(name, _)| name.clone()).collect();
+    let makes_replies = |name: &&String| {
+        called(&lines, vec![name.to_string()]).contains(REPLIES) && !is_program(root, name)
+    };
+    let makers = lines.keys().filter(makes_replies).cloned().collect();
     Ok(called(&lines, makers).into_iter().map(|name| used(&lines, name)).collect())
 }
 
@@ -46,11 +45,10 @@ fn lines(text: &str) -> Lines {
 }
 
 fn is_program(root: &Path, name: &str) -> bool {
-    let sources = root.join("crates").join(name).join("src");
-    sources.join("main.rt").exists() && !sources.join("lib.rt").exists()
+    root.join("crates").join(name).join("src/main.rt").exists()
 }
 
-/// The crates and all crates of this repository that they call.
+/// The crates and all crates of this repository that they call, also through others.
 fn called(lines: &Lines, mut open: Vec<String>) -> BTreeSet<String> {
     let mut called = BTreeSet::new();
     while let Some(name) = open.pop() {

@@ -45,7 +45,7 @@ impl<'a> Cursor<'a> {
     }
 
     /// Steps over this name or sign where it stands here, and gives whether it does.
-    pub fn eat(&mut self, text: &str) -> bool {
+    pub fn skip_if(&mut self, text: &str) -> bool {
         let found = self.is(text);
         if found {
             self.step();
@@ -54,7 +54,7 @@ impl<'a> Cursor<'a> {
     }
 
     pub fn expect(&mut self, text: &str) -> Read<()> {
-        if self.eat(text) {
+        if self.skip_if(text) {
             return Ok(());
         }
         self.fault(format!("'{text}' is expected here"))
@@ -78,19 +78,44 @@ impl<'a> Cursor<'a> {
         Ok(path)
     }
 
-    pub fn skip_lifetime(&mut self) {
-        if *self.word() == Word::Lifetime {
+    /// Steps over a lifetime where one stands here, and gives whether it does.
+    pub fn skip_lifetime(&mut self) -> bool {
+        let found = matches!(self.word(), Word::Lifetime(_));
+        if found {
             self.step();
         }
+        found
     }
 
     /// Steps over the lifetimes in angle brackets where they stand here.
     pub fn skip_lifetimes(&mut self) {
-        if self.is("<") && *self.ahead(1) == Word::Lifetime {
-            while !self.eat(">") && *self.word() != Word::End {
+        if self.is("<") && matches!(self.ahead(1), Word::Lifetime(_)) {
+            while !self.skip_if(">") && *self.word() != Word::End {
                 self.step();
             }
         }
+    }
+
+    /// Steps over `pub` where it stands here, with what it may have in parentheses.
+    pub fn skip_visibility(&mut self) -> Read<()> {
+        if self.skip_if("pub") && self.is("(") && is(self.ahead(1), "crate") {
+            self.skip_brackets()?;
+        }
+        Ok(())
+    }
+
+    /// Steps on to the first of these signs that stands in no bracket.
+    pub fn skip_to(&mut self, signs: &[&str]) -> Read<()> {
+        while !self.is_any(signs) {
+            if self.is_any(&["(", "[", "{"]) {
+                self.skip_brackets()?;
+            } else if self.is_any(&[")", "]", "}"]) || *self.word() == Word::End {
+                return self.fault(format!("'{}' is expected here", signs[0]));
+            } else {
+                self.step();
+            }
+        }
+        Ok(())
     }
 
     /// Steps over what stands between this bracket and the one that closes it, with both.
@@ -112,7 +137,7 @@ impl<'a> Cursor<'a> {
     }
 }
 
-pub fn is(word: &Word, text: &str) -> bool {
+fn is(word: &Word, text: &str) -> bool {
     match word {
         Word::Name(name) => name == text,
         Word::Sign(sign) => *sign == text,

@@ -1,10 +1,11 @@
 //! Expressions, and the type that each comes to.
 
-use crate::bodies::{made, placed, Body, Value};
-use crate::program::Kind;
+use crate::bodies::{made, placed, Value};
+use crate::items::Kind;
+use crate::reader::Reader;
 use crate::remark::Read;
 use crate::tokens::Word;
-use crate::types::{built_in, number_type, Reader, Type};
+use crate::types::{built_in, number_type, Type};
 
 /// Where a range may end without a number.
 const ENDS: [&str; 6] = [";", "}", ",", ")", "]", "{"];
@@ -12,73 +13,95 @@ const ENDS: [&str; 6] = [";", "}", ",", ")", "]", "{"];
 /// The type of two numbers together, or of two ways to one value.
 pub fn joined(left: Type, right: Type) -> Type {
     match left {
-        Type::Untyped | Type::Never => right,
+        Type::Untyped | Type::Unset | Type::Never => right,
         _ => left,
     }
 }
 
-impl Body<'_> {
+impl Reader<'_> {
     /// An expression; `wanted` is the type that a value has at its place, where that is written.
     pub fn expression(&mut self, wanted: &Type) -> Read<Value> {
-        let first = self.cursor.word();
-        let mut value = self.operand(wanted)?;
+        let mut value = self.arithmetic(wanted)?;
         while let Word::Sign(sign) = *self.cursor.word() {
             value = match sign {
-                "+" | "-" | "*" | "/" | "%" | "^" | "|" | "&" | "<<" | ">>" => {
-                    self.cursor.step();
-                    made(joined(value.of, self.operand(&Type::Untyped)?.of))
-                }
                 "==" | "!=" | "<" | ">" | "<=" | ">=" | "&&" | "||" => {
                     self.cursor.step();
-                    self.operand(&Type::Untyped)?;
+                    self.arithmetic(&Type::Untyped)?;
                     made(Type::Other)
                 }
-                ".." | "..=" => self.range()?,
-                _ if sign.ends_with('=') => {
-                    self.cursor.step();
-                    let assigned = self.expression(&value.of)?;
-                    self.settle(first, &assigned.of)?;
-                    made(Type::Other)
-                }
+                ".." | "..=" => self.range(value.of)?,
+                _ if sign.ends_with('=') => self.assigned(&value)?,
                 _ => return Ok(value),
             };
         }
         Ok(value)
     }
 
-    fn range(&mut self) -> Read<Value> {
-        self.cursor.step();
-        if !self.cursor.is_any(&ENDS) {
-            self.operand(&Type::Untyped)?;
+    /// Numbers joined by operators that give a number.
+    fn arithmetic(&mut self, wanted: &Type) -> Read<Value> {
+        let mut value = self.operand(wanted)?;
+        loop {
+            let is_shift = self.cursor.is_any(&["<<", ">>"]);
+            if !is_shift && !self.cursor.is_any(&["+", "-", "*", "/", "%", "^", "|", "&"]) {
+                return Ok(value);
+            }
+            self.cursor.step();
+            let right = self.operand(&Type::Untyped)?.of;
+            value = made(if is_shift { value.of } else { joined(value.of, right) });
         }
-        Ok(made(Type::Range))
     }
 
+    fn assigned(&mut self, to: &Value) -> Read<Value> {
+        self.cursor.step();
+        let value = self.expression(&to.of)?;
+        if let Some(local) = to.local {
+            self.settle(local, value.of)?;
+        }
+        Ok(made(Type::Other))
+    }
+
+    /// A range from a number on, to another one or without an end.
+    fn range(&mut self, from: Type) -> Read<Value> {
+        self.cursor.step();
+        let mut of = from;
+        if !self.cursor.is_any(&ENDS) {
+            of = joined(of, self.arithmetic(&Type::Untyped)?.of);
+        }
+        Ok(made(Type::Range(Box::new(of))))
+    }
+
+    /// A value, with the type that it is turned into.
     fn operand(&mut self, wanted: &Type) -> Read<Value> {
+        let mut value = self.deeper(|reader| reader.unary(wanted))?;
+        while self.cursor.skip_if("as") {
+            value = made(self.read_type()?);
+        }
+        Ok(value)
+    }
+
+    fn unary(&mut self, wanted: &Type) -> Read<Value> {
         if self.cursor.is_any(&["&", "&&"]) {
             self.cursor.step();
-            self.cursor.eat("mut");
-            let lent = self.operand(wanted.behind())?;
+            self.cursor.skip_if("mut");
+            let lent = self.deeper(|reader| reader.unary(wanted.behind()))?;
             self.hold_unnamed(&lent)?;
             return Ok(made(Type::Lent(Box::new(lent.of))));
         }
-        if self.cursor.eat("*") {
-            return match self.operand(&Type::Untyped)?.of {
+        if self.cursor.skip_if("*") {
+            return match self.deeper(|reader| reader.unary(&Type::Untyped))?.of {
                 Type::Lent(of) => Ok(placed(*of)),
                 _ => self.cursor.fault("what is no reference is followed"),
             };
         }
-        if self.cursor.eat("!") || self.cursor.eat("-") {
-            return Ok(made(self.operand(wanted)?.of));
+        if self.cursor.skip_if("!") || self.cursor.skip_if("-") {
+            return Ok(made(self.deeper(|reader| reader.unary(wanted))?.of));
         }
         let mut value = self.primary(wanted)?;
         loop {
-            if self.cursor.eat(".") {
+            if self.cursor.skip_if(".") {
                 value = self.member(&value)?;
-            } else if self.cursor.eat("[") {
+            } else if self.cursor.skip_if("[") {
                 value = self.element(&value)?;
-            } else if self.cursor.eat("as") {
-                value = made(self.read_type()?);
             } else {
                 return Ok(value);
             }
@@ -87,11 +110,13 @@ impl Body<'_> {
 
     /// An element of a value, or a part of its elements.
     fn element(&mut self, value: &Value) -> Read<Value> {
-        let index = self.inside(|body| body.expression(&Type::Untyped))?;
+        let index = self.inside(|reader| reader.expression(&Type::Untyped))?;
         self.cursor.expect("]")?;
         self.hold_unnamed(value)?;
         match value.of.element().cloned() {
-            Some(element) if index.of == Type::Range => Ok(placed(Type::Slice(Box::new(element)))),
+            Some(element) if matches!(index.of, Type::Range(_)) => {
+                Ok(placed(Type::Slice(Box::new(element))))
+            }
             Some(element) => Ok(placed(element)),
             None => self.cursor.fault("what has no elements is indexed"),
         }
@@ -108,9 +133,7 @@ impl Body<'_> {
         self.hold_unnamed(value)?;
         let of = value.of.behind();
         if self.cursor.is("(") {
-            let result = self.method_result(of, &name)?;
-            self.arguments(true)?;
-            return Ok(made(result));
+            return self.method(of, &name);
         }
         if let Type::Declared(item) = of {
             let mut fields = self.shapes(*item)?.into_iter().flat_map(|shape| shape.fields);
@@ -121,57 +144,65 @@ impl Body<'_> {
         self.nothing_says(&[name])
     }
 
-    fn method_result(&self, of: &Type, name: &str) -> Read<Type> {
-        if let Type::Declared(item) = of {
-            if let Some(method) = self.program.own_item(*item, name) {
-                return Ok(Reader::new(self.program, method).signature()?.1);
-            }
-        }
-        match (name, of.element()) {
-            ("len", Some(_)) => Ok(Type::Other),
-            _ => self.nothing_says(&[name.to_string()]),
-        }
+    /// A call of a function of a value's type; a value of the language has a length alone.
+    fn method(&mut self, of: &Type, name: &str) -> Read<Value> {
+        let own = match of {
+            Type::Declared(item) => self.sources.own_item(*item, name),
+            _ => None,
+        };
+        let (parameters, result) = match (own, of.element()) {
+            (Some(method), _) => self.reader_of(method).signature()?,
+            (None, Some(_)) if name == "len" => (Vec::new(), Type::Other),
+            _ => return self.nothing_says(&[name.to_string()]),
+        };
+        // The first is the value itself.
+        self.arguments(parameters.get(1..).unwrap_or(&[]), true)?;
+        Ok(made(result))
     }
 
     /// The values between parentheses: passed to a function, or made the fields of a value.
-    fn arguments(&mut self, passed: bool) -> Read<()> {
+    fn arguments(&mut self, parameters: &[(String, Type)], passed: bool) -> Read<()> {
+        let mut wanted = parameters.iter().map(|parameter| &parameter.1);
         self.cursor.expect("(")?;
-        while !self.cursor.eat(")") {
-            let argument = self.inside(|body| body.expression(&Type::Untyped))?;
+        while !self.cursor.skip_if(")") {
+            let of = wanted.next().unwrap_or(&Type::Untyped);
+            let argument = self.inside(|reader| reader.expression(of))?;
             if passed {
                 self.hold_unnamed(&argument)?;
             }
-            self.cursor.eat(",");
+            self.cursor.skip_if(",");
         }
         Ok(())
     }
 
-    /// What the function that a path names gives, if it names one.
-    fn result_of(&self, path: &[String]) -> Read<Option<Type>> {
-        let name = &path[path.len() - 1];
-        if path[0] == "std" {
-            // The standard library has functions on numbers, whose names end with their types.
-            return Ok(built_in(name.rsplit('_').next().unwrap_or("")));
-        }
-        let mut function = self.named(path).map(|item| &self.program.items[item]);
-        match self.owner_in(path)? {
-            Some(Type::Declared(of)) => function = self.program.own_item(of, name),
-            Some(number) => return Ok(Some(number)),
-            None => (),
-        }
-        match function.filter(|item| item.kind == Kind::Function) {
-            Some(item) => Ok(Some(Reader::new(self.program, item).signature()?.1)),
-            None => Ok(None),
-        }
-    }
-
     /// A call of a function, or a struct or a variant from its fields.
     fn called(&mut self, path: &[String]) -> Read<Value> {
-        let result = self.result_of(path)?;
-        self.arguments(result.is_some())?;
-        match result {
-            Some(result) => Ok(made(result)),
-            None => Ok(made(self.shape_named(path)?.0)),
+        if let Some(number) = self.number_function(path)? {
+            self.arguments(&[], true)?;
+            return Ok(made(number));
+        }
+        let function = match self.owner_in(path)? {
+            Some(Type::Declared(of)) => self.sources.own_item(of, &path[path.len() - 1]),
+            _ => self.named(path),
+        };
+        if let Some(item) = function.filter(|item| self.kind_of(*item) == Kind::Function) {
+            let (parameters, result) = self.reader_of(item).signature()?;
+            self.arguments(&parameters, true)?;
+            return Ok(made(result));
+        }
+        let (of, shape) = self.shape_named(path)?;
+        self.arguments(&shape.fields, false)?;
+        Ok(made(of))
+    }
+
+    /// What a function of the language gives, which is on numbers: its path goes through their type,
+    /// or is `std::num` and a name that ends with it.
+    fn number_function(&self, path: &[String]) -> Read<Option<Type>> {
+        match &self.sources.whole_path(self.item.file, path)[..] {
+            [first, second, name] if first == "std" && second == "num" => {
+                Ok(name.rsplit('_').next().and_then(built_in))
+            }
+            _ => Ok(self.owner_in(path)?.filter(|of| !matches!(of, Type::Declared(_)))),
         }
     }
 
@@ -182,7 +213,7 @@ impl Body<'_> {
             Word::Sign("[") => return self.array(wanted),
             Word::Sign("{") => return self.block(wanted),
             Word::Sign("(") => return self.parenthesized(wanted),
-            Word::Sign(".." | "..=") => return self.range(),
+            Word::Sign(".." | "..=") => return self.range(Type::Untyped),
             Word::Name(name) => return self.name_or_keyword(name, wanted),
             Word::Sign(_) | Word::Text | Word::End => {
                 return self.cursor.fault("a value is expected here");
@@ -195,7 +226,7 @@ impl Body<'_> {
                 let bytes = Type::Array(Box::new(Type::Byte), *count);
                 Ok(made(Type::Lent(Box::new(bytes))))
             }
-            Word::Lifetime => {
+            Word::Lifetime(_) => {
                 self.cursor.expect(":")?;
                 self.primary(wanted)
             }
@@ -205,7 +236,10 @@ impl Body<'_> {
 
     fn parenthesized(&mut self, wanted: &Type) -> Read<Value> {
         self.cursor.expect("(")?;
-        let value = self.inside(|body| body.expression(wanted))?;
+        if self.cursor.skip_if(")") {
+            return Ok(made(Type::Other));
+        }
+        let value = self.inside(|reader| reader.expression(wanted))?;
         self.cursor.expect(")")?;
         Ok(value)
     }
@@ -217,13 +251,13 @@ impl Body<'_> {
         let hint = wanted.element().cloned().unwrap_or(Type::Untyped);
         let mut element = Type::Untyped;
         let mut length = 0;
-        while !self.cursor.eat("]") {
-            element = joined(element, self.inside(|body| body.expression(&hint))?.of);
+        while !self.cursor.skip_if("]") {
+            element = joined(element, self.inside(|reader| reader.expression(&hint))?.of);
             length += 1;
-            if self.cursor.eat(";") {
+            if self.cursor.skip_if(";") {
                 length = self.number()?;
             }
-            self.cursor.eat(",");
+            self.cursor.skip_if(",");
         }
         element = joined(joined(element, hint), Type::Byte);
         let array = Type::Array(Box::new(element), length);
@@ -235,7 +269,7 @@ impl Body<'_> {
     fn name_or_keyword(&mut self, name: &str, wanted: &Type) -> Read<Value> {
         match name {
             "if" | "match" | "while" | "loop" | "for" => self.control(name, wanted),
-            "return" | "break" | "continue" => self.left(name),
+            "return" | "break" | "continue" => self.jump(name),
             "true" | "false" => {
                 self.cursor.step();
                 Ok(made(Type::Other))
@@ -252,9 +286,11 @@ impl Body<'_> {
         if self.takes_fields && self.cursor.is("{") {
             return self.fields(&path);
         }
-        let local = self.locals.iter().rev().find(|local| path == [local.0.as_str()]);
-        match local {
-            Some((_, of)) => Ok(placed(of.clone().unwrap_or(Type::Untyped))),
+        match self.locals.iter().rposition(|local| path == [local.0.as_str()]) {
+            Some(local) => {
+                let of = self.locals[local].1.clone();
+                Ok(Value { local: Some(local), ..placed(of) })
+            }
             None => self.constant_value(&path),
         }
     }
@@ -263,25 +299,25 @@ impl Body<'_> {
     fn fields(&mut self, path: &[String]) -> Read<Value> {
         let (of, shape) = self.shape_named(path)?;
         self.cursor.expect("{")?;
-        while !self.cursor.eat("}") {
-            if self.cursor.eat("..") {
+        while !self.cursor.skip_if("}") {
+            if self.cursor.skip_if("..") {
                 self.expression(&of)?;
                 continue;
             }
             let name = self.cursor.name()?;
             let field = shape.fields.iter().find(|field| field.0 == name);
-            if self.cursor.eat(":") {
+            if self.cursor.skip_if(":") {
                 self.expression(field.map_or(&Type::Untyped, |field| &field.1))?;
             }
-            self.cursor.eat(",");
+            self.cursor.skip_if(",");
         }
         Ok(made(of))
     }
 
     /// A constant, or a variant or struct without fields.
     fn constant_value(&self, path: &[String]) -> Read<Value> {
-        if let Some(mut constant) = self.constant_named(path)? {
-            return Ok(made(constant.constant_type()?));
+        if let Some(item) = self.constant_named(path)? {
+            return Ok(made(self.reader_of(item).constant_type()?));
         }
         match built_in(&path[0]) {
             Some(of) => Ok(made(of)),

@@ -6,11 +6,13 @@ mod control;
 mod crates;
 mod cursor;
 mod expressions;
+mod items;
 mod look;
 mod numbers;
 mod patterns;
-mod program;
+mod reader;
 mod remark;
+mod sources;
 mod tokens;
 mod types;
 

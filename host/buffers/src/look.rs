@@ -1,14 +1,14 @@
-//! Looks through a whole program.
+//! Looks through a whole sources.
 
 use std::io;
 use std::path::Path;
 
-use crate::bodies::{read_constant, read_function};
-use crate::cursor::is;
-use crate::program::{Kind, Program, Source};
+use crate::items::Kind;
+use crate::reader::Reader;
 use crate::remark::{Finding, Read, Remark};
+use crate::sources::{Source, Sources};
 use crate::tokens::Word;
-use crate::types::{Reader, Type};
+use crate::types::Type;
 
 /// The libraries of the kit for input and output.
 const INPUT_AND_OUTPUT: [&str; 3] = ["io", "libc", "os"];
@@ -21,50 +21,56 @@ pub struct Report {
 }
 
 pub fn look(root: &Path) -> io::Result<Report> {
-    let program = Program::read(root)?;
+    let sources = Sources::read(root)?;
     let mut findings = Vec::new();
-    for index in 0..program.items.len() {
-        let source = &program.sources[program.items[index].source];
-        let remarks = read_item(&program, index).unwrap_or_else(|fault| vec![fault.unread()]);
-        findings.extend(remarks.into_iter().map(|remark| source.finding(remark)));
+    for index in 0..sources.items.len() {
+        let file = &sources.files[sources.items[index].file];
+        let remarks = read_item(&sources, index).unwrap_or_else(|fault| vec![fault.unread()]);
+        findings.extend(remarks.into_iter().map(|remark| file.finding(remark)));
     }
-    for source in &program.sources {
-        findings.extend(outside(source).into_iter().map(|remark| source.finding(remark)));
+    for file in &sources.files {
+        let remarks = input_and_output_in(file);
+        findings.extend(remarks.into_iter().map(|remark| file.finding(remark)));
     }
-    findings.extend(program.findings);
+    findings.extend(sources.modules_named_twice());
+    findings.extend(sources.findings);
     findings.sort();
     findings.dedup();
-    let functions = program.items.iter().filter(|item| item.kind == Kind::Function).count();
-    Ok(Report { crates: program.crates.into_iter().collect(), functions, findings })
+    let functions = sources.items.iter().filter(|item| item.kind == Kind::Function).count();
+    Ok(Report { crates: sources.crates.into_iter().collect(), functions, findings })
 }
 
 /// What may not stand in an item.
-fn read_item(program: &Program, index: usize) -> Read<Vec<Remark>> {
-    let item = &program.items[index];
-    let mut reader = Reader::new(program, item);
+fn read_item(sources: &Sources, index: usize) -> Read<Vec<Remark>> {
+    let item = &sources.items[index];
+    let mut reader = Reader::new(sources, item);
     let line = reader.cursor.line();
     match item.kind {
-        Kind::Function => return read_function(reader),
-        Kind::Constant => return read_constant(reader),
+        Kind::Function => reader.function()?,
+        Kind::Constant => reader.constant()?,
         Kind::Alias => _ = reader.alias()?,
-        Kind::Struct => _ = reader.shape(String::new())?,
-        Kind::Enum => _ = reader.variants()?,
+        Kind::Struct | Kind::Enum => {
+            reader.fields_or_variants()?;
+            let bytes = reader.bytes_of(&Type::Declared(index))?;
+            reader.judge(line, &format!("{} holds", item.name), bytes);
+        }
     }
-    if let Kind::Struct | Kind::Enum = item.kind {
-        let bytes = reader.bytes_of(&Type::Declared(index))?;
-        reader.judge(line, &format!("{} holds", item.name), bytes);
+    reader.cursor.skip_if(";");
+    if reader.cursor.at != item.end {
+        return reader.cursor.fault("the item does not end here");
     }
     Ok(reader.found)
 }
 
 /// Uses of the libraries for input and output.
-fn outside(source: &Source) -> Vec<Remark> {
+fn input_and_output_in(source: &Source) -> Vec<Remark> {
     let mut found = Vec::new();
-    for three in source.tokens.windows(3) {
-        let [before, token, after] = three else { continue };
+    for (index, token) in source.tokens.iter().enumerate() {
         let Word::Name(name) = &token.word else { continue };
-        let begins_path = is(&after.word, "::") && !is(&before.word, "::");
-        if INPUT_AND_OUTPUT.contains(&name.as_str()) && (begins_path || is(&before.word, "use")) {
+        let begins_path = source.tokens[index + 1].word == Word::Sign("::");
+        let before = index.checked_sub(1).map(|before| &source.tokens[before].word);
+        let is_import = before == Some(&Word::Name("use".to_string()));
+        if INPUT_AND_OUTPUT.contains(&name.as_str()) && (begins_path || is_import) {
             found.push(Remark { line: token.line, text: format!("{name} is used") });
         }
     }

@@ -1,15 +1,16 @@
 //! The numbers that stand as the lengths of arrays and the values of constants.
 
-use crate::program::Kind;
+use crate::items::Kind;
+use crate::reader::Reader;
 use crate::remark::Read;
 use crate::tokens::Word;
-use crate::types::{Reader, Type};
+use crate::types::Type;
 
 /// The operators in groups, those that bind least first.
 const OPERATORS: [&[&str]; 6] =
     [&["|"], &["^"], &["&"], &["<<", ">>"], &["+", "-"], &["*", "/", "%"]];
 
-impl<'a> Reader<'a> {
+impl Reader<'_> {
     pub fn number(&mut self) -> Read<u64> {
         self.joined_by(0)
     }
@@ -35,37 +36,42 @@ impl<'a> Reader<'a> {
     }
 
     fn factor(&mut self) -> Read<u64> {
-        let value = if let Word::Number(value, _) = self.cursor.word() {
-            self.cursor.step();
-            *value
-        } else if self.cursor.eat("(") {
-            let value = self.number()?;
-            self.cursor.expect(")")?;
-            value
-        } else {
-            let path = self.cursor.path()?;
-            match self.constant_named(&path)? {
-                Some(mut constant) => {
-                    constant.constant_type()?;
-                    constant.number()?
-                }
-                None => return self.nothing_says(&path),
+        if let Word::Number(value, of) = self.cursor.word() {
+            if !of.is_empty() && of != "usize" {
+                return self.cursor.fault("a length is a usize");
             }
-        };
-        while self.cursor.eat("as") {
-            self.read_type()?;
+            self.cursor.step();
+            return Ok(*value);
         }
+        if self.cursor.skip_if("(") {
+            let value = self.deeper(Self::number)?;
+            self.cursor.expect(")")?;
+            return Ok(value);
+        }
+        let path = self.cursor.path()?;
+        match self.constant_named(&path)? {
+            Some(item) => self.known(item, |reader| reader.length_constant()),
+            None => self.nothing_says(&path),
+        }
+    }
+
+    /// The value of this constant, which is a length.
+    fn length_constant(&mut self) -> Read<u64> {
+        self.cursor.expect(":")?;
+        self.cursor.expect("usize")?;
+        self.cursor.expect("=")?;
+        let value = self.number()?;
+        self.cursor.expect(";")?;
         Ok(value)
     }
 
     /// The constant that a path names, by itself or as a type's own.
-    pub fn constant_named(&self, path: &[String]) -> Read<Option<Reader<'a>>> {
-        let mut found = self.named(path).map(|item| &self.program.items[item]);
+    pub fn constant_named(&self, path: &[String]) -> Read<Option<usize>> {
+        let mut found = self.named(path);
         if let (None, Some(Type::Declared(of))) = (found, self.owner_in(path)?) {
-            found = self.program.own_item(of, &path[path.len() - 1]);
+            found = self.sources.own_item(of, &path[path.len() - 1]);
         }
-        let constant = found.filter(|item| item.kind == Kind::Constant);
-        Ok(constant.map(|item| Reader::new(self.program, item)))
+        Ok(found.filter(|item| self.kind_of(*item) == Kind::Constant))
     }
 }
 

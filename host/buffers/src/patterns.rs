@@ -1,68 +1,80 @@
 //! Patterns, and the locals that they bind.
 
-use crate::bodies::Body;
+use crate::items::Kind;
+use crate::reader::Reader;
 use crate::remark::Read;
 use crate::tokens::Word;
 use crate::types::Type;
 
-impl Body<'_> {
-    /// Steps over a pattern up to what stands after it in a `let`.
-    pub fn skip_pattern(&mut self) -> Read<()> {
-        while !self.cursor.is_any(&[":", "=", ";"]) {
-            if self.cursor.is_any(&["(", "{"]) {
-                self.cursor.skip_brackets()?;
-            } else if *self.cursor.word() == Word::End {
-                return self.cursor.fault("a pattern without an end");
-            } else {
-                self.cursor.step();
-            }
-        }
-        Ok(())
-    }
-
+impl Reader<'_> {
     /// Binds the locals of the pattern at a token that was stepped over.
-    pub fn pattern_at(&mut self, at: usize, of: Option<&Type>) -> Read<()> {
+    pub fn pattern_at(&mut self, at: usize, of: &Type) -> Read<bool> {
         let next = std::mem::replace(&mut self.cursor.at, at);
-        self.pattern(of)?;
+        let takes_all = self.pattern(of)?;
         self.cursor.at = next;
-        Ok(())
+        Ok(takes_all)
     }
 
-    /// Binds the locals of a pattern for a value of the type. A local without a value has none.
-    pub fn pattern(&mut self, of: Option<&Type>) -> Read<()> {
-        self.one_pattern(of)?;
-        while self.cursor.eat("|") {
-            self.one_pattern(of)?;
+    /// Binds the locals of a pattern for a value of the type, and tells whether one local takes all
+    /// of it. Of several patterns for the same locals the one that holds the most counts.
+    pub fn pattern(&mut self, of: &Type) -> Read<bool> {
+        let (held, in_scope) = (self.held, self.locals.len());
+        let takes_all = self.deeper(|reader| reader.one_pattern(of))?;
+        let mut most = self.held;
+        while self.cursor.skip_if("|") {
+            self.held = held;
+            self.locals.truncate(in_scope);
+            self.deeper(|reader| reader.one_pattern(of))?;
+            most = most.max(self.held);
         }
-        Ok(())
+        self.held = most;
+        Ok(takes_all)
     }
 
-    fn one_pattern(&mut self, of: Option<&Type>) -> Read<()> {
-        self.cursor.eat("&");
-        self.cursor.eat("mut");
-        if matches!(self.cursor.word(), Word::Number(..) | Word::Byte) || self.cursor.is("-") {
-            self.skip_number();
-            return Ok(());
+    fn one_pattern(&mut self, of: &Type) -> Read<bool> {
+        if self.cursor.skip_if("&") {
+            let Type::Lent(of) = of else {
+                return self.cursor.fault("what is no reference is followed");
+            };
+            return self.one_pattern(of);
+        }
+        self.cursor.skip_if("mut");
+        if !matches!(self.cursor.word(), Word::Name(_)) {
+            return self.numbers_pattern();
         }
         let path = self.cursor.path()?;
         if self.cursor.is_any(&["(", "{"]) {
-            return self.parts(&path);
+            self.parts(&path)?;
+            return Ok(false);
         }
-        let begins_small = path[0].starts_with(|c: char| c.is_ascii_lowercase());
-        let is_bool = path[0] == "true" || path[0] == "false";
-        if path.len() == 1 && begins_small && !is_bool {
-            self.bind(path[0].clone(), of.cloned())?;
+        if self.cursor.is_any(&["..", "..="]) {
+            return self.numbers_pattern();
         }
-        Ok(())
+        let is_local = self.is_new_local(&path);
+        if is_local {
+            self.bind(path[0].clone(), of.clone())?;
+        }
+        Ok(is_local)
     }
 
-    /// Steps over a number, or over two with a range between them.
-    fn skip_number(&mut self) {
-        while matches!(self.cursor.word(), Word::Number(..) | Word::Byte)
-            || self.cursor.is_any(&["-", "..", "..="])
+    /// Whether a path in a pattern is the name of a local, which a constant or a type is not.
+    fn is_new_local(&self, path: &[String]) -> bool {
+        let item = self.named(path).map(|item| self.kind_of(item));
+        path.len() == 1 && path[0] != "_" && matches!(item, None | Some(Kind::Function))
+    }
+
+    /// A number, or two with a range between them: nothing is bound.
+    fn numbers_pattern(&mut self) -> Read<bool> {
+        let start = self.cursor.at;
+        while matches!(self.cursor.word(), Word::Number(..) | Word::Byte | Word::Name(_))
+            || self.cursor.is_any(&["-", "..", "..=", "::"])
         {
             self.cursor.step();
         }
+        if self.cursor.at == start {
+            return self.cursor.fault("a pattern is expected here");
+        }
+        Ok(false)
     }
 
     /// The patterns of the fields of a struct or a variant.
@@ -71,19 +83,19 @@ impl Body<'_> {
         let named = self.cursor.is("{");
         let mut fields = 0;
         self.cursor.step();
-        while !self.cursor.eat(if named { "}" } else { ")" }) {
-            if self.cursor.eat("..") {
+        while !self.cursor.skip_if(if named { "}" } else { ")" }) {
+            if self.cursor.skip_if("..") {
                 continue;
             }
             let name = if named { self.cursor.name()? } else { fields.to_string() };
             let field = shape.fields.iter().find(|field| field.0 == name);
-            let of = field.map(|field| field.1.clone());
-            if named && !self.cursor.eat(":") {
+            let of = field.map_or(Type::Untyped, |field| field.1.clone());
+            if named && !self.cursor.skip_if(":") {
                 self.bind(name, of)?;
             } else {
-                self.pattern(of.as_ref())?;
+                self.pattern(&of)?;
             }
-            self.cursor.eat(",");
+            self.cursor.skip_if(",");
             fields += 1;
         }
         Ok(())

@@ -1,6 +1,7 @@
 //! The tokens of a Rattle source: its comments, contracts and ghost lines are left out.
 
 use crate::remark::{Read, Remark};
+use crate::types::built_in;
 
 #[derive(Clone, Debug, PartialEq)]
 pub enum Word {
@@ -13,7 +14,7 @@ pub enum Word {
     Bytes(u64),
     /// A text that is no bytes, as after `extern`.
     Text,
-    Lifetime,
+    Lifetime(String),
     Sign(&'static str),
     End,
 }
@@ -49,9 +50,11 @@ pub fn tokens(text: &str) -> Read<Vec<Token>> {
                 tokens.push(Token { word, line });
                 return Ok(tokens);
             }
-            Word::Name(name) if ["ghost", "requires", "ensures"].contains(&name.as_str()) => {
+            Word::Name(name) if ["requires", "ensures"].contains(&name.as_str()) => {
+                lexer.skip_space()?;
                 lexer.skip_clause()?;
             }
+            Word::Name(name) if name == "ghost" => lexer.skip_ghost()?,
             _ => tokens.push(Token { word, line }),
         }
     }
@@ -111,36 +114,66 @@ impl Lexer<'_> {
 
     /// Skips a comment, with the comments in it.
     fn skip_comment(&mut self) -> Read<()> {
-        self.at += 2;
-        while !self.starts_with("*/") {
+        let mut open = 0;
+        loop {
             if self.starts_with("/*") {
-                self.skip_comment()?;
+                open += 1;
+                self.at += 2;
+            } else if self.starts_with("*/") {
+                open -= 1;
+                self.at += 2;
             } else {
                 self.step()?;
             }
+            if open == 0 {
+                return Ok(());
+            }
         }
-        self.at += 2;
+    }
+
+    /// Skips a ghost clause, or a ghost line up to its end.
+    fn skip_ghost(&mut self) -> Read<()> {
+        self.skip_space()?;
+        if self.ahead(0) == b'{' {
+            return self.skip_clause();
+        }
+        if self.name() != "use" {
+            return self.fault("a ghost that is no clause and no import");
+        }
+        while self.text_of_logic()? != b';' {}
         Ok(())
     }
 
-    /// Skips a clause in braces, or the rest of a ghost line: neither is code.
+    /// Skips the braces of a clause.
     fn skip_clause(&mut self) -> Read<()> {
-        self.skip_space()?;
-        if self.ahead(0) != b'{' {
-            return self.skip_past(b';');
-        }
         let mut open = 0;
         loop {
-            match self.step()? {
+            match self.text_of_logic()? {
                 b'{' => open += 1,
                 b'}' => open -= 1,
-                b'"' => self.skip_past(b'"')?,
+                _ if open == 0 => return self.fault("a clause without braces"),
                 _ => (),
             }
             if open == 0 {
                 return Ok(());
             }
         }
+    }
+
+    /// Steps over one byte of what is written in the language of proofs, or over a text in quotes
+    /// there. Its comments are refused, since they could hide where it ends.
+    fn text_of_logic(&mut self) -> Read<u8> {
+        if self.starts_with("--") || self.starts_with("{-") {
+            return self.fault("a comment in a clause or a ghost line");
+        }
+        let byte = self.step()?;
+        if byte == b'"' {
+            while self.ahead(0) != b'"' {
+                self.escaped()?;
+            }
+            self.step()?;
+        }
+        Ok(byte)
     }
 
     fn word(&mut self) -> Read<Word> {
@@ -162,8 +195,7 @@ impl Lexer<'_> {
         }
         if byte == b'\'' {
             self.step()?;
-            self.name();
-            return Ok(Word::Lifetime);
+            return Ok(Word::Lifetime(self.name()));
         }
         self.sign()
     }
@@ -194,9 +226,12 @@ impl Lexer<'_> {
             _ => (10, &text[..]),
         };
         let end = digits.find(|c: char| !c.is_digit(base)).unwrap_or(digits.len());
+        let of = &digits[end..];
         match u64::from_str_radix(&digits[..end], base) {
-            Ok(value) => Ok(Word::Number(value, digits[end..].to_string())),
-            Err(_) => self.fault("a number that cannot be read"),
+            Ok(value) if of.is_empty() || built_in(of).is_some() => {
+                Ok(Word::Number(value, of.to_string()))
+            }
+            _ => self.fault("a number that cannot be read"),
         }
     }
 

@@ -1,8 +1,8 @@
 //! Types, and the bytes that a value of each holds.
 
-use crate::cursor::Cursor;
-use crate::program::{Item, Kind, Program};
-use crate::remark::{Read, Remark};
+use crate::items::Kind;
+use crate::reader::Reader;
+use crate::remark::Read;
 use crate::tokens::Word;
 
 #[derive(Clone, Debug, PartialEq)]
@@ -12,7 +12,10 @@ pub enum Type {
     Other,
     /// A number whose type is not written with it.
     Untyped,
-    Range,
+    /// A local that has no value yet.
+    Unset,
+    /// A range of such numbers.
+    Range(Box<Type>),
     /// What does not come to a value, as a return.
     Never,
     Lent(Box<Type>),
@@ -27,9 +30,6 @@ pub struct Shape {
     pub variant: String,
     pub fields: Vec<(String, Type)>,
 }
-
-/// Types that hold others this deep hold themselves, which the language refuses.
-const DEEPEST: u32 = 64;
 
 impl Type {
     /// What an array, a slice or a reference to one has as elements.
@@ -58,41 +58,26 @@ pub fn built_in(name: &str) -> Option<Type> {
     }
 }
 
-/// Reads an item of a program, and finds the arrays in it that are as long as a 6G1.
-pub struct Reader<'a> {
-    pub program: &'a Program,
-    pub item: &'a Item,
-    pub cursor: Cursor<'a>,
-    pub found: Vec<Remark>,
-}
-
-impl<'a> Reader<'a> {
-    pub fn new(program: &'a Program, item: &'a Item) -> Reader<'a> {
-        let tokens = &program.sources[item.source].tokens;
-        Reader { program, item, cursor: Cursor::new(tokens, item.at), found: Vec::new() }
-    }
-
-    pub fn judge(&mut self, line: usize, what: &str, bytes: u64) {
-        if bytes >= crate::SHORTEST_6G1 {
-            self.found.push(Remark { line, text: format!("{what} {bytes} bytes") });
-        }
-    }
-
+impl Reader<'_> {
     pub fn read_type(&mut self) -> Read<Type> {
+        self.deeper(Self::read_type_here)
+    }
+
+    fn read_type_here(&mut self) -> Read<Type> {
         let line = self.cursor.line();
         if self.cursor.is_any(&["&", "&&"]) {
             self.cursor.step();
             self.cursor.skip_lifetime();
-            self.cursor.eat("mut");
+            self.cursor.skip_if("mut");
             return Ok(Type::Lent(Box::new(self.read_type()?)));
         }
-        if !self.cursor.eat("[") {
+        if !self.cursor.skip_if("[") {
             let path = self.cursor.path()?;
             self.cursor.skip_lifetimes();
             return self.type_named(&path);
         }
         let element = Box::new(self.read_type()?);
-        if self.cursor.eat("]") {
+        if self.cursor.skip_if("]") {
             return Ok(Type::Slice(element));
         }
         self.cursor.expect(";")?;
@@ -110,25 +95,6 @@ impl<'a> Reader<'a> {
         }
     }
 
-    pub fn nothing_says<T>(&self, path: &[String]) -> Read<T> {
-        self.cursor.fault(format!("nothing says what {} is", path.join("::")))
-    }
-
-    /// The item that a path names.
-    pub fn named(&self, path: &[String]) -> Option<usize> {
-        let owner = self.item.owner.as_ref().filter(|_| path == ["Self"]);
-        self.program.named(self.item.source, owner.map_or(path, std::slice::from_ref))
-    }
-
-    /// A reader of another item.
-    pub fn reader_of(&self, item: usize) -> Reader<'a> {
-        Reader::new(self.program, &self.program.items[item])
-    }
-
-    pub fn kind_of(&self, item: usize) -> Kind {
-        self.program.items[item].kind
-    }
-
     /// The type that a path names, if it names one.
     fn declared(&self, path: &[String]) -> Read<Option<Type>> {
         let Some(item) = self.named(path) else { return Ok(None) };
@@ -144,73 +110,77 @@ impl<'a> Reader<'a> {
         self.read_type()
     }
 
-    /// The bytes that a value of the type holds itself: behind a reference it holds none.
-    pub fn bytes_of(&self, of: &Type) -> Read<u64> {
-        self.bytes_within(of, 0)
+    /// Reads the type and the value of a constant.
+    pub fn constant(&mut self) -> Read<()> {
+        let of = self.constant_type()?;
+        self.expression(&of)?;
+        Ok(())
     }
 
-    fn bytes_within(&self, of: &Type, depth: u32) -> Read<u64> {
-        if depth > DEEPEST {
-            return self.cursor.fault("a type that holds itself");
-        }
-        let mut most: u64 = 0;
+    /// The bytes that a value of the type holds itself: behind a reference it holds none.
+    pub fn bytes_of(&self, of: &Type) -> Read<u64> {
         match of {
-            Type::Byte => most = 1,
-            Type::Array(element, length) => {
-                most = self.bytes_within(element, depth + 1)?.saturating_mul(*length);
+            Type::Byte => Ok(1),
+            Type::Array(element, length) => Ok(self.bytes_of(element)?.saturating_mul(*length)),
+            Type::Declared(item) => self.known(*item, |reader| reader.bytes_of_fields()),
+            _ => Ok(0),
+        }
+    }
+
+    /// The bytes of the fields of this struct, or of the longest variant of this enum.
+    fn bytes_of_fields(&mut self) -> Read<u64> {
+        let mut most = 0;
+        for shape in self.fields_or_variants()? {
+            let mut sum: u64 = 0;
+            for (_, field) in &shape.fields {
+                sum = sum.saturating_add(self.bytes_of(field)?);
             }
-            Type::Declared(item) => {
-                for shape in self.shapes(*item)? {
-                    let mut sum: u64 = 0;
-                    for (_, field) in &shape.fields {
-                        sum = sum.saturating_add(self.bytes_within(field, depth + 1)?);
-                    }
-                    most = most.max(sum);
-                }
-            }
-            _ => (),
+            most = most.max(sum);
         }
         Ok(most)
     }
 
     /// The shape of a struct, or those of the variants of an enum.
     pub fn shapes(&self, item: usize) -> Read<Vec<Shape>> {
-        let mut reader = self.reader_of(item);
-        match self.kind_of(item) {
-            Kind::Enum => reader.variants(),
-            _ => Ok(vec![reader.shape(String::new())?]),
-        }
+        self.reader_of(item).fields_or_variants()
     }
 
-    pub fn variants(&mut self) -> Read<Vec<Shape>> {
+    pub fn fields_or_variants(&mut self) -> Read<Vec<Shape>> {
+        if self.item.kind == Kind::Enum {
+            return self.variants();
+        }
+        Ok(vec![self.shape(String::new())?])
+    }
+
+    fn variants(&mut self) -> Read<Vec<Shape>> {
         let mut variants = Vec::new();
         self.cursor.expect("{")?;
-        while !self.cursor.eat("}") {
+        while !self.cursor.skip_if("}") {
             let name = self.cursor.name()?;
             variants.push(self.shape(name)?);
-            if self.cursor.eat("=") {
+            if self.cursor.skip_if("=") {
                 self.number()?;
             }
-            self.cursor.eat(",");
+            self.cursor.skip_if(",");
         }
         Ok(variants)
     }
 
     /// The fields in braces or in parentheses, or none.
-    pub fn shape(&mut self, variant: String) -> Read<Shape> {
+    fn shape(&mut self, variant: String) -> Read<Shape> {
         let mut fields = Vec::new();
         self.cursor.skip_lifetimes();
         let named = self.cursor.is("{");
         if named || self.cursor.is("(") {
             self.cursor.step();
-            while !self.cursor.eat(if named { "}" } else { ")" }) {
-                self.cursor.eat("pub");
+            while !self.cursor.skip_if(if named { "}" } else { ")" }) {
+                self.cursor.skip_visibility()?;
                 let name = if named { self.cursor.name()? } else { fields.len().to_string() };
                 if named {
                     self.cursor.expect(":")?;
                 }
                 fields.push((name, self.read_type()?));
-                self.cursor.eat(",");
+                self.cursor.skip_if(",");
             }
         }
         Ok(Shape { variant, fields })
@@ -252,20 +222,20 @@ impl<'a> Reader<'a> {
         let mut parameters = Vec::new();
         self.cursor.skip_lifetimes();
         self.cursor.expect("(")?;
-        while !self.cursor.eat(")") {
-            let lent = self.cursor.eat("&");
+        while !self.cursor.skip_if(")") {
+            let lent = self.cursor.skip_if("&");
             self.cursor.skip_lifetime();
-            self.cursor.eat("mut");
+            self.cursor.skip_if("mut");
             let name = self.cursor.name()?;
-            let of = if self.cursor.eat(":") {
+            let of = if self.cursor.skip_if(":") {
                 self.read_type()?
             } else {
                 self.type_named(&["Self".to_string()])?
             };
             parameters.push((name, if lent { Type::Lent(Box::new(of)) } else { of }));
-            self.cursor.eat(",");
+            self.cursor.skip_if(",");
         }
-        let result = if self.cursor.eat("->") { self.read_type()? } else { Type::Other };
+        let result = if self.cursor.skip_if("->") { self.read_type()? } else { Type::Other };
         Ok((parameters, result))
     }
 }

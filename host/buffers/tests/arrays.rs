@@ -2,11 +2,11 @@
 
 mod common;
 
-use common::{in_function, passes, refused, Copy, REPLIES};
+use common::{in_function, passes, refused, refused_at, SourceCopy, REPLIES};
 
 #[test]
 fn the_sources_pass_as_they_are() {
-    Copy::new().passes();
+    SourceCopy::new().passes();
 }
 
 #[test]
@@ -21,7 +21,7 @@ fn a_type_of_339_bytes_is_refused() {
     refused("const PLANTED: [u8; 339] = [0; 339];", reason);
     refused("enum Planted { Bytes([u8; 339]) }", reason);
     refused("const PLANTED: u64 = [0u8; 339][0] as u64;", "an array of 339 bytes");
-    refused(&in_function("let a: [u8; 339] = planted();"), reason);
+    refused(&in_function("let a: [u8; 339] = [0; 339];"), reason);
 }
 
 #[test]
@@ -40,10 +40,12 @@ fn an_expression_of_339_bytes_is_refused() {
 fn numbers_without_a_type_count_as_bytes() {
     refused(&in_function("let a = [0; 339];"), "an array of 339 bytes");
     refused(&in_function("let mut k = 0; let a = [k; 339];"), "an array of 339 bytes");
-    refused(&in_function("let n = put(m, 0, &[0; 339]);"), "an array of 339 bytes");
+    refused(&in_function("let n = m.len(); let a = [1 << n; 339];"), "an array of 339 bytes");
+    refused(&in_function("let n = put(space, 0, &[0; 339]);"), "an array of 339 bytes");
     passes(&in_function("let a: [u64; 640] = [0; 640];"));
     passes("struct Planted { words: [u64; 640] } fn planted() -> Planted { Planted { words: [0; 640] } }");
     passes("fn planted() -> [u64; 640] { [0; 640] }");
+    passes("fn sum(a: &[u64]) -> u64 { a[0] } fn planted() -> u64 { sum(&[0; 640]) }");
 }
 
 #[test]
@@ -55,7 +57,8 @@ fn lengths_are_worked_out() {
     refused(&in_function("let a = [0u8; (1 << 8) + 83 % 84];"), reason);
     refused(&in_function("let a = [0u8; 680 - 1 >> 1];"), reason);
     refused(&in_function("let a = [0u8; 0b1_0101_0010 | 1];"), reason);
-    refused(&in_function("let a = [0u8; /* 5 */ 339 as usize];"), reason);
+    refused(&in_function("let a = [0u8; 0x152 ^ 1];"), reason);
+    refused(&in_function("let a = [0u8; /* 5 */ 339];"), reason);
     passes(&in_function("let a = [0u8; 2 + 1 * 100];"));
     passes(&in_function("let a = [0u8; 338 & 0xfff];"));
 }
@@ -77,24 +80,24 @@ fn constants_are_followed() {
     refused(&format!("const LONG: u8 = 0; {}", in_function("let a = [LONG; 339];")), reason);
     passes(&format!("const LONG: usize = 338; {planted}"));
     passes(&format!("const LONG: u64 = 339; {}", in_function("let a = [LONG; 640];")));
+    passes("struct Pair { a: u8 } const PAIR: Pair = Pair { a: 1 };");
 }
 
 #[test]
 fn a_constant_of_another_crate_is_followed() {
-    let length = "pub const LONG: usize = 339;";
-    let below = |text: &str| {
-        Copy::new().append("crates/output/src/internal.rt", length).append(REPLIES, text)
-    };
-    let by_import = "use output::internal::LONG;\nfn planted() { let a = [0u8; LONG]; }";
-    below(by_import).is_refused_in(REPLIES, "an array of 339 bytes");
+    let reason = "an array of 339 bytes";
+    let internal = "crates/output/src/internal.rt";
+    let below = || SourceCopy::new().append(internal, "pub const LONG: usize = 339;");
     let by_path = "fn planted() { let a = [0u8; output::internal::LONG]; }";
-    below(by_path).is_refused_in(REPLIES, "an array of 339 bytes");
-    // Passed on by the root of the crate.
-    let root = "crates/output/src/lib.rt";
-    let passed_on = below("use output::LONG;\nfn planted() { let a = [0u8; LONG]; }");
-    passed_on
-        .append(root, "pub use internal::LONG;")
-        .is_refused_in(REPLIES, "an array of 339 bytes");
+    refused_at(below(), REPLIES, by_path, reason);
+    let by_import = "use output::internal::LONG;\nfn planted() { let a = [0u8; LONG]; }";
+    refused_at(below(), REPLIES, by_import, reason);
+    let by_root = "use output::LONG;\nfn planted() { let a = [0u8; LONG]; }";
+    let root = below().append("crates/output/src/lib.rt", "pub use internal::LONG;");
+    refused_at(root, REPLIES, by_root, reason);
+    let by_third = "use layout::LONG;\nfn planted() { let a = [0u8; LONG]; }";
+    let third = below().append("crates/layout/src/lib.rt", "pub use output::internal::LONG;");
+    refused_at(third, REPLIES, by_third, reason);
 }
 
 #[test]
@@ -119,15 +122,15 @@ fn byte_strings_are_counted() {
     let reason = "a byte string of 339 bytes";
     let long = "x".repeat(338);
     refused(&in_function(&format!("let a = b\"{long}x\";")), reason);
-    refused(&in_function(&format!("put(m, 0, b\"{}\");", "\\x00".repeat(339))), reason);
-    refused(&in_function(&format!("put(m, 0, b\"{long}\\\"\");")), reason);
-    refused(&in_function(&format!("put(m, 0, b\"{long}\\\n       y\");")), reason);
+    refused(&in_function(&format!("put(space, 0, b\"{}\");", "\\x00".repeat(339))), reason);
+    refused(&in_function(&format!("put(space, 0, b\"{long}\\\"\");")), reason);
+    refused(&in_function(&format!("put(space, 0, b\"{long}\\\n       y\");")), reason);
     refused(
         &format!("const PLANTED: [u8; 339] = *b\"{long}x\";"),
         "the type of an array of 339 bytes",
     );
     passes(&in_function(&format!("let a = b\"{long}\";")));
-    passes(&in_function(&format!("put(m, 0, b\"{long}\\\n    \");")));
+    passes(&in_function(&format!("put(space, 0, b\"{long}\\\n    \");")));
 }
 
 #[test]
@@ -149,8 +152,12 @@ fn comments_contracts_and_ghost_lines_are_no_code() {
     refused(&in_function("let a = b\"//\"; let b = [0u8; 400];"), "an array of 400 bytes");
     refused(&in_function("let a = b\"/*\"; let b = [0u8; 400];"), "an array of 400 bytes");
     refused(&in_function("let a = b'\"'; let b = [0u8; 400];"), "an array of 400 bytes");
-    for clause in ["requires { ⌜ a ⌝ }", "ensures { λ r. ⌜ r ≡ \"}\" ⌝ }", "ghost { ℕ }"]
-    {
+    for clause in [
+        "requires { ⌜ a ⌝ }",
+        r#"ensures { λ r. ⌜ r ≡ "}" ⌝ }"#,
+        r#"ensures { λ r. ⌜ r ≡ "\"}" ⌝ }"#,
+        "ghost { ℕ }",
+    ] {
         let planted = format!("fn planted() {clause} {{ let a = [0u8; 400]; }}");
         refused(&planted, "an array of 400 bytes");
     }

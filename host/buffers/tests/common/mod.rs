@@ -18,22 +18,22 @@ pub fn repository() -> PathBuf {
 }
 
 /// A copy of the repository's crates.txt and crates. Those that stay as they are stand in it as links.
-pub struct Copy {
+pub struct SourceCopy {
     root: PathBuf,
 }
 
-impl Copy {
-    pub fn new() -> Copy {
+impl SourceCopy {
+    pub fn new() -> SourceCopy {
         let number = COPIES.fetch_add(1, Ordering::Relaxed);
-        let name = format!("copy-{}-{number}", std::process::id());
-        let root = Path::new(env!("CARGO_TARGET_TMPDIR")).join(name);
+        let name = format!("buffers-{}-{number}", std::process::id());
+        let root = std::env::temp_dir().join(name);
         fs::create_dir_all(root.join("crates")).unwrap();
         fs::copy(repository().join("crates.txt"), root.join("crates.txt")).unwrap();
         for entry in fs::read_dir(repository().join("crates")).unwrap() {
             let folder = entry.unwrap();
             symlink(folder.path(), root.join("crates").join(folder.file_name())).unwrap();
         }
-        Copy { root }
+        SourceCopy { root }
     }
 
     /// Puts the sources themselves in place of the link to a crate.
@@ -59,7 +59,7 @@ impl Copy {
     }
 
     /// Puts another text in place of one that stands once in a file.
-    pub fn replace(self, path: &str, old: &str, new: &str) -> Copy {
+    pub fn replace(self, path: &str, old: &str, new: &str) -> SourceCopy {
         let text = fs::read_to_string(self.root.join(path)).unwrap();
         assert_eq!(text.matches(old).count(), 1, "'{old}' in {path}");
         self.write(path, &text.replace(old, new));
@@ -67,14 +67,14 @@ impl Copy {
     }
 
     /// Puts a text at the end of a file, which need not be there yet.
-    pub fn append(self, path: &str, text: &str) -> Copy {
+    pub fn append(self, path: &str, text: &str) -> SourceCopy {
         let before = fs::read_to_string(self.root.join(path)).unwrap_or_default();
-        self.write(path, &format!("{before}\n{text}\n"));
+        self.write(path, &format!("{before}{text}\n"));
         self
     }
 
     /// Adds a crate with one source, and its line at the end of crates.txt.
-    pub fn add_crate(self, name: &str, needs: &str, source: &str, text: &str) -> Copy {
+    pub fn add_crate(self, name: &str, needs: &str, source: &str, text: &str) -> SourceCopy {
         self.write(&format!("crates/{name}/src/{source}"), text);
         self.append("crates.txt", &format!("{name}: {needs}"))
     }
@@ -104,31 +104,45 @@ impl Copy {
         said
     }
 
-    /// It is read whole, and refused by lines of one file, of which one has this text.
-    pub fn is_refused_in(&self, path: &str, text: &str) {
-        for line in self.is_refused(&format!(": {text}")).lines() {
-            assert!(line.starts_with(&format!("buffers: {path}:")), "{line}");
-            assert!(!line.contains("cannot be read"), "{line}");
+    /// It is read whole and refused by lines that all speak of one file, from this line on, and of
+    /// which one has this text.
+    pub fn is_refused_in(&self, path: &str, first_line: usize, text: &str) {
+        for said in self.is_refused(&format!(": {text}")).lines() {
+            let at_path = said.strip_prefix(&format!("buffers: {path}:"));
+            let line = at_path.and_then(|rest| rest.split(':').next()).map(str::parse::<usize>);
+            assert!(matches!(line, Some(Ok(line)) if line >= first_line), "{said}");
+            assert!(!said.contains("cannot be read"), "{said}");
         }
+    }
+
+    /// How many lines a file has.
+    pub fn lines(&self, path: &str) -> usize {
+        fs::read_to_string(self.root.join(path)).unwrap_or_default().lines().count()
     }
 }
 
-impl Drop for Copy {
+impl Drop for SourceCopy {
     fn drop(&mut self) {
         let _ = fs::remove_dir_all(&self.root);
     }
 }
 
+/// The text at the end of a file is refused there for this reason.
+pub fn refused_at(copy: SourceCopy, path: &str, text: &str, reason: &str) {
+    let lines = copy.lines(path);
+    copy.append(path, text).is_refused_in(path, lines + 1, reason);
+}
+
 /// The text at the end of the sources of `replies` is refused there for this reason.
 pub fn refused(text: &str, reason: &str) {
-    Copy::new().append(REPLIES, text).is_refused_in(REPLIES, reason);
+    refused_at(SourceCopy::new(), REPLIES, text, reason);
 }
 
 pub fn passes(text: &str) {
-    Copy::new().append(REPLIES, text).passes();
+    SourceCopy::new().append(REPLIES, text).passes();
 }
 
 /// The text as the statements of a function.
 pub fn in_function(statements: &str) -> String {
-    format!("fn planted(m: &[u8]) {{ {statements} }}")
+    format!("fn planted(space: &mut [u8], m: &[u8]) {{ {statements} }}")
 }
