@@ -58,7 +58,8 @@ impl Reader<'_> {
 
     /// Gives a local whose type is not known yet that of a value.
     pub fn settle(&mut self, local: usize, of: Type) -> Read<()> {
-        if let Type::Unset | Type::Untyped = self.locals[local].1 {
+        let is_open = matches!(self.locals[local].1, Type::Unset | Type::Untyped);
+        if is_open && of != Type::Never {
             self.hold(&of)?;
             self.locals[local].1 = of;
         }
@@ -77,14 +78,21 @@ impl Reader<'_> {
     pub fn block(&mut self, wanted: &Type) -> Read<Value> {
         let in_scope = self.locals.len();
         self.cursor.expect("{")?;
-        let mut last = made(Type::Other);
+        let mut last = Type::Other;
         let mut ends = false;
         while !self.cursor.skip_if("}") {
-            last = self.inside(|reader| reader.statement(wanted))?;
-            ends |= last.of == Type::Never;
+            let wanted = if self.is_last_statement() { wanted } else { &Type::Untyped };
+            last = self.inside(|reader| reader.statement(wanted))?.of;
+            ends |= last == Type::Never;
         }
         self.locals.truncate(in_scope);
-        Ok(if ends { made(Type::Never) } else { last })
+        Ok(made(if ends { Type::Never } else { last }))
+    }
+
+    /// Whether no statement ends before the block does.
+    fn is_last_statement(&self) -> bool {
+        let mut cursor = self.cursor.clone();
+        cursor.skip_to(&[";", "}"]).is_ok() && cursor.is("}")
     }
 
     fn statement(&mut self, wanted: &Type) -> Read<Value> {

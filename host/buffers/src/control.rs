@@ -2,29 +2,30 @@
 
 use crate::bodies::{made, Value};
 use crate::expressions::joined;
-use crate::reader::Reader;
+use crate::reader::{Loop, Reader};
 use crate::remark::Read;
+use crate::tokens::Word;
 use crate::types::Type;
 
 impl Reader<'_> {
-    pub fn control(&mut self, keyword: &str, wanted: &Type) -> Read<Value> {
+    /// A branch, or a loop with a label or none.
+    pub fn control(&mut self, label: Option<&String>, wanted: &Type) -> Read<Value> {
         let in_scope = self.locals.len();
-        self.cursor.step();
-        let of = match keyword {
-            "if" => self.branches(wanted)?,
-            "match" => self.arms(wanted)?,
-            "loop" => self.repeated()?,
+        let keyword = self.cursor.name()?;
+        let of = self.deeper(|reader| match keyword.as_str() {
+            "if" => reader.branches(wanted),
+            "match" => reader.arms(wanted),
+            "loop" => reader.repeated(label, wanted),
             "while" => {
-                self.condition()?;
-                self.repeated()?;
-                Type::Other
+                reader.condition()?;
+                reader.repeated(label, wanted).and(Ok(Type::Other))
             }
-            _ => {
-                self.counted()?;
-                self.repeated()?;
-                Type::Other
+            "for" => {
+                reader.counted()?;
+                reader.repeated(label, wanted).and(Ok(Type::Other))
             }
-        };
+            _ => reader.cursor.fault("a loop is expected here"),
+        })?;
         self.locals.truncate(in_scope);
         Ok(made(of))
     }
@@ -42,8 +43,10 @@ impl Reader<'_> {
     }
 
     fn branches(&mut self, wanted: &Type) -> Read<Type> {
+        let in_scope = self.locals.len();
         self.condition()?;
         let taken = self.block(wanted)?.of;
+        self.locals.truncate(in_scope);
         if !self.cursor.skip_if("else") {
             return Ok(Type::Other);
         }
@@ -76,27 +79,41 @@ impl Reader<'_> {
     }
 
     /// The block of a loop, and what the loop breaks with.
-    fn repeated(&mut self) -> Read<Type> {
-        self.broken.push(Type::Never);
+    fn repeated(&mut self, label: Option<&String>, wanted: &Type) -> Read<Type> {
+        let (label, wanted) = (label.cloned(), wanted.clone());
+        self.loops.push(Loop { label, wanted, of: Type::Never });
         self.block(&Type::Untyped)?;
-        Ok(self.broken.pop().unwrap_or(Type::Never))
+        Ok(self.loops.pop().map_or(Type::Never, |ended| ended.of))
     }
 
     /// A return, break or continue, with the value that it carries or none.
     pub fn jump(&mut self, keyword: &str) -> Read<Value> {
         self.cursor.step();
-        let has_label = self.cursor.skip_lifetime();
+        let index = self.loop_named()?;
+        let wanted = match (keyword, index) {
+            ("break", Some(index)) => self.loops[index].wanted.clone(),
+            _ => self.result.clone(),
+        };
+        let mut of = Type::Other;
         if !self.cursor.is_any(&[";", "}", ","]) {
-            if has_label {
-                return self.cursor.fault("a value for a loop further out");
-            }
-            let result = self.result.clone();
-            let wanted = if keyword == "return" { result } else { Type::Untyped };
-            let of = self.expression(&wanted)?.of;
-            if let ("break", Some(last)) = (keyword, self.broken.last_mut()) {
-                *last = joined(last.clone(), of);
-            }
+            of = self.expression(&wanted)?.of;
+        }
+        if let ("break", Some(index)) = (keyword, index) {
+            let ended = &mut self.loops[index];
+            ended.of = joined(ended.of.clone(), of);
         }
         Ok(made(Type::Never))
+    }
+
+    /// The loop around that has the label that stands here, or the innermost one without a label.
+    fn loop_named(&mut self) -> Read<Option<usize>> {
+        let Word::Lifetime(label) = self.cursor.word() else {
+            return Ok(self.loops.len().checked_sub(1));
+        };
+        self.cursor.step();
+        match self.loops.iter().rposition(|around| around.label.as_ref() == Some(label)) {
+            Some(index) => Ok(Some(index)),
+            None => self.cursor.fault("no loop around has this label"),
+        }
     }
 }

@@ -78,6 +78,14 @@ impl<'a> Cursor<'a> {
         Ok(path)
     }
 
+    /// Steps over the signs of references that stand here, and gives how many they are.
+    pub fn skip_references(&mut self) -> usize {
+        if self.skip_if("&&") {
+            return 2;
+        }
+        usize::from(self.skip_if("&"))
+    }
+
     /// Steps over a lifetime where one stands here, and gives whether it does.
     pub fn skip_lifetime(&mut self) -> bool {
         let found = matches!(self.word(), Word::Lifetime(_));

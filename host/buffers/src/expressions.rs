@@ -53,7 +53,7 @@ impl Reader<'_> {
 
     fn assigned(&mut self, to: &Value) -> Read<Value> {
         self.cursor.step();
-        let value = self.expression(&to.of)?;
+        let value = self.deeper(|reader| reader.expression(&to.of))?;
         if let Some(local) = to.local {
             self.settle(local, value.of)?;
         }
@@ -80,12 +80,12 @@ impl Reader<'_> {
     }
 
     fn unary(&mut self, wanted: &Type) -> Read<Value> {
-        if self.cursor.is_any(&["&", "&&"]) {
-            self.cursor.step();
+        let references = self.cursor.skip_references();
+        if references > 0 {
             self.cursor.skip_if("mut");
             let lent = self.deeper(|reader| reader.unary(wanted.behind()))?;
             self.hold_unnamed(&lent)?;
-            return Ok(made(Type::Lent(Box::new(lent.of))));
+            return Ok(made(lent.of.lent(references)));
         }
         if self.cursor.skip_if("*") {
             return match self.deeper(|reader| reader.unary(&Type::Untyped))?.of {
@@ -182,7 +182,7 @@ impl Reader<'_> {
             return Ok(made(number));
         }
         let function = match self.owner_in(path)? {
-            Some(Type::Declared(of)) => self.sources.own_item(of, &path[path.len() - 1]),
+            Some(Type::Declared(of)) => self.own_function(of, &path[path.len() - 1])?,
             _ => self.named(path),
         };
         if let Some(item) = function.filter(|item| self.kind_of(*item) == Kind::Function) {
@@ -193,6 +193,12 @@ impl Reader<'_> {
         let (of, shape) = self.shape_named(path)?;
         self.arguments(&shape.fields, false)?;
         Ok(made(of))
+    }
+
+    /// The function of a type, where no variant has its name.
+    fn own_function(&self, of: usize, name: &str) -> Read<Option<usize>> {
+        let is_variant = self.shapes(of)?.iter().any(|shape| shape.variant == name);
+        Ok(self.sources.own_item(of, name).filter(|_| !is_variant))
     }
 
     /// What a function of the language gives, which is on numbers: its path goes through their type,
@@ -226,9 +232,9 @@ impl Reader<'_> {
                 let bytes = Type::Array(Box::new(Type::Byte), *count);
                 Ok(made(Type::Lent(Box::new(bytes))))
             }
-            Word::Lifetime(_) => {
+            Word::Lifetime(name) => {
                 self.cursor.expect(":")?;
-                self.primary(wanted)
+                self.control(Some(name), wanted)
             }
             _ => Ok(made(number_type(word))),
         }
@@ -268,7 +274,7 @@ impl Reader<'_> {
 
     fn name_or_keyword(&mut self, name: &str, wanted: &Type) -> Read<Value> {
         match name {
-            "if" | "match" | "while" | "loop" | "for" => self.control(name, wanted),
+            "if" | "match" | "while" | "loop" | "for" => self.control(None, wanted),
             "return" | "break" | "continue" => self.jump(name),
             "true" | "false" => {
                 self.cursor.step();
@@ -301,7 +307,8 @@ impl Reader<'_> {
         self.cursor.expect("{")?;
         while !self.cursor.skip_if("}") {
             if self.cursor.skip_if("..") {
-                self.expression(&of)?;
+                let rest = self.expression(&of)?;
+                self.hold_unnamed(&rest)?;
                 continue;
             }
             let name = self.cursor.name()?;

@@ -22,6 +22,10 @@ pub struct Report {
 
 pub fn look(root: &Path) -> io::Result<Report> {
     let sources = Sources::read(root)?;
+    // Where a source cannot be read, what others have from it is not known.
+    if !sources.findings.is_empty() {
+        return Ok(report(&sources, sources.findings.clone()));
+    }
     let mut findings = Vec::new();
     for index in 0..sources.items.len() {
         let file = &sources.files[sources.items[index].file];
@@ -33,11 +37,14 @@ pub fn look(root: &Path) -> io::Result<Report> {
         findings.extend(remarks.into_iter().map(|remark| file.finding(remark)));
     }
     findings.extend(sources.modules_named_twice());
-    findings.extend(sources.findings);
+    Ok(report(&sources, findings))
+}
+
+fn report(sources: &Sources, mut findings: Vec<Finding>) -> Report {
     findings.sort();
     findings.dedup();
     let functions = sources.items.iter().filter(|item| item.kind == Kind::Function).count();
-    Ok(Report { crates: sources.crates.into_iter().collect(), functions, findings })
+    Report { crates: sources.crates.iter().cloned().collect(), functions, findings }
 }
 
 /// What may not stand in an item.

@@ -38,29 +38,43 @@ impl Reader<'_> {
             };
             return self.one_pattern(of);
         }
+        if self.cursor.skip_if("(") {
+            let takes_all = self.pattern(of)?;
+            self.cursor.expect(")")?;
+            return Ok(takes_all);
+        }
         self.cursor.skip_if("mut");
         if !matches!(self.cursor.word(), Word::Name(_)) {
             return self.numbers_pattern();
         }
         let path = self.cursor.path()?;
         if self.cursor.is_any(&["(", "{"]) {
-            self.parts(&path)?;
+            let lent = matches!(of, Type::Lent(_));
+            self.parts(&path, usize::from(lent))?;
             return Ok(false);
         }
         if self.cursor.is_any(&["..", "..="]) {
             return self.numbers_pattern();
         }
-        let is_local = self.is_new_local(&path);
+        let is_local = self.is_new_local(&path)?;
         if is_local {
             self.bind(path[0].clone(), of.clone())?;
         }
         Ok(is_local)
     }
 
-    /// Whether a path in a pattern is the name of a local, which a constant or a type is not.
-    fn is_new_local(&self, path: &[String]) -> bool {
-        let item = self.named(path).map(|item| self.kind_of(item));
-        path.len() == 1 && path[0] != "_" && matches!(item, None | Some(Kind::Function))
+    /// Whether a path in a pattern is the name of a local, which a constant and a struct without
+    /// fields are not.
+    fn is_new_local(&self, path: &[String]) -> Read<bool> {
+        if path.len() > 1 || path[0] == "_" {
+            return Ok(false);
+        }
+        let Some(item) = self.named(path) else { return Ok(true) };
+        match self.kind_of(item) {
+            Kind::Constant => Ok(false),
+            Kind::Struct => Ok(!self.shapes(item)?[0].fields.is_empty()),
+            _ => Ok(true),
+        }
     }
 
     /// A number, or two with a range between them: nothing is bound.
@@ -77,19 +91,20 @@ impl Reader<'_> {
         Ok(false)
     }
 
-    /// The patterns of the fields of a struct or a variant.
-    fn parts(&mut self, path: &[String]) -> Read<()> {
+    /// The patterns of the fields of a struct or a variant, which may be lent.
+    fn parts(&mut self, path: &[String], references: usize) -> Read<()> {
         let (_, shape) = self.shape_named(path)?;
         let named = self.cursor.is("{");
         let mut fields = 0;
         self.cursor.step();
-        while !self.cursor.skip_if(if named { "}" } else { ")" }) {
+        let close = if named { "}" } else { ")" };
+        while !self.cursor.skip_if(close) {
             if self.cursor.skip_if("..") {
-                continue;
+                return self.cursor.expect(close);
             }
             let name = if named { self.cursor.name()? } else { fields.to_string() };
             let field = shape.fields.iter().find(|field| field.0 == name);
-            let of = field.map_or(Type::Untyped, |field| field.1.clone());
+            let of = field.map_or(Type::Untyped, |field| field.1.clone()).lent(references);
             if named && !self.cursor.skip_if(":") {
                 self.bind(name, of)?;
             } else {

@@ -9,6 +9,13 @@ use crate::types::Type;
 /// What stands in one another deeper than this is not read: it may stand in itself.
 const DEEPEST: u32 = 200;
 
+/// A loop, by its label if it has one: the type that it has at its place, and what it breaks with.
+pub struct Loop {
+    pub label: Option<String>,
+    pub wanted: Type,
+    pub of: Type,
+}
+
 /// Reads an item, and finds what is as long as a 6G1 in it.
 pub struct Reader<'a> {
     pub sources: &'a Sources,
@@ -21,8 +28,8 @@ pub struct Reader<'a> {
     pub locals: Vec<(String, Type)>,
     /// The bytes of all locals, in scope or not, and of what is made without a name.
     pub held: u64,
-    /// For each loop around, what it breaks with.
-    pub broken: Vec<Type>,
+    /// The loops around.
+    pub loops: Vec<Loop>,
     /// What the function gives.
     pub result: Type,
     /// Whether a brace after a path begins the fields of a struct.
@@ -39,7 +46,7 @@ impl<'a> Reader<'a> {
             depth: 0,
             locals: Vec::new(),
             held: 0,
-            broken: Vec::new(),
+            loops: Vec::new(),
             result: Type::Never,
             takes_fields: true,
         }

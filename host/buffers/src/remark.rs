@@ -10,7 +10,7 @@ pub struct Remark {
 pub type Read<T> = Result<T, Remark>;
 
 /// What may not stand in a file.
-#[derive(Debug, PartialEq, Eq, PartialOrd, Ord)]
+#[derive(Clone, Debug, PartialEq, Eq, PartialOrd, Ord)]
 pub struct Finding {
     pub path: String,
     pub remark: Remark,

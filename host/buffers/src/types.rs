@@ -40,6 +40,11 @@ impl Type {
         }
     }
 
+    /// A reference to it, so many times.
+    pub fn lent(self, references: usize) -> Type {
+        (0..references).fold(self, |of, _| Type::Lent(Box::new(of)))
+    }
+
     pub fn behind(&self) -> &Type {
         match self {
             Type::Lent(lent) => lent.behind(),
@@ -65,11 +70,11 @@ impl Reader<'_> {
 
     fn read_type_here(&mut self) -> Read<Type> {
         let line = self.cursor.line();
-        if self.cursor.is_any(&["&", "&&"]) {
-            self.cursor.step();
+        let references = self.cursor.skip_references();
+        if references > 0 {
             self.cursor.skip_lifetime();
             self.cursor.skip_if("mut");
-            return Ok(Type::Lent(Box::new(self.read_type()?)));
+            return Ok(self.read_type()?.lent(references));
         }
         if !self.cursor.skip_if("[") {
             let path = self.cursor.path()?;

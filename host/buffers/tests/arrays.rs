@@ -45,6 +45,9 @@ fn numbers_without_a_type_count_as_bytes() {
     passes(&in_function("let a: [u64; 640] = [0; 640];"));
     passes("struct Planted { words: [u64; 640] } fn planted() -> Planted { Planted { words: [0; 640] } }");
     passes("fn planted() -> [u64; 640] { [0; 640] }");
+    passes("fn planted() -> [u64; 640] { loop { break [0; 640]; } }");
+    let statement = "fn planted(m: &[u8]) -> [u64; 640] { [0; 339][0] == m[0]; [0; 640] }";
+    refused(statement, "an array of 339 bytes");
     passes("fn sum(a: &[u64]) -> u64 { a[0] } fn planted() -> u64 { sum(&[0; 640]) }");
 }
 

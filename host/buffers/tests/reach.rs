@@ -119,6 +119,8 @@ fn a_module_is_found_by_its_file() {
 fn common_forms_are_read() {
     for text in [
         "fn planted(n: &u8) -> u64 { *n as u64 }",
+        "fn planted(n: &&u64) -> u64 { **n }",
+        "fn planted(n: u64) -> u64 { match n { (1 | 2) => 1, _ => 'o: loop { break 'o 2; } } }",
         "fn planted(n: u64) { match n { 0 => (), _ => () } }",
         "pub(crate) fn planted() {}",
         "pub struct Planted { pub(crate) a: u64 }",
@@ -144,6 +146,8 @@ fn every_source_comes_to_an_end() {
         "struct S { a: [S; 2] }".to_string(),
         format!("fn planted() {{ {} }}", "(".repeat(20_000) + &")".repeat(20_000)),
         format!("fn planted(a: {}u8) {{}}", "&".repeat(20_000)),
+        format!("fn planted() {{ {} }}", "if true {} else ".repeat(30_000) + "{}"),
+        format!("fn planted() {{ let mut a = 1; {} 1; }}", "a = ".repeat(60_000)),
     ] {
         SourceCopy::new().append(REPLIES, &text).is_refused(deep);
     }
@@ -190,7 +194,9 @@ fn what_cannot_be_read_is_refused() {
         ("fn planted() { let a = [0u8; 600 - (255u8 << 1)]; }", "a length is a usize"),
         ("const A: bool = 0 < 6; fn planted(a: [u8; A]) {}", "'usize' is expected"),
         ("const A: usize = 1 == 2; fn planted(a: [u8; A]) {}", "';' is expected"),
-        ("fn planted() { let a = 'o: loop { break 'o 1; }; }", "a value for a loop further out"),
+        ("fn planted() { loop { break 'o; } }", "no loop around has this label"),
+        ("fn planted() { 'o: other {} }", "a loop is expected here"),
+        ("fn planted() { ({ let c = 1; c }) = 5; let a = c; }", "nothing says what c is"),
         (
             "fn planted() ensures { ⌜ a ⌝ -- {\n} { let a = [0u8; 400]; }\n// } {}",
             "a comment in a clause",

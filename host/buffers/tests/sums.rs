@@ -76,10 +76,18 @@ fn a_local_has_the_type_of_its_value() {
     locals("let a = [0u8; 170]; let b = if true { return } else { a };", 340);
     locals("let a = [0u8; 170]; let b = if true { return; let x = 1; } else { a };", 340);
     locals("let a = [0u8; 170]; let b = loop { break a; };", 340);
+    locals("let a = [0u8; 170]; let b = 'o: loop { loop { break 'o a; } };", 340);
+    locals("let a = [0u8; 170]; let b = { loop { break; } a };", 340);
+    locals("let a = [0u8; 170]; let b; if true { b = return; } else { b = a; }", 340);
     locals("let a = [0u8; 170]; let b = { let c = 1; a };", 340);
     locals("let a = [0u8; 170]; let b = (a);", 340);
     locals("let a = [0u8; 170]; if true { let a = [0u64; 3]; } let b = a;", 340);
     locals("let a = [0u8; 170]; { let a = [0u64; 3]; } let b = a;", 340);
+    let shadowed = "enum E { X(u64), N } fn planted(a: [u8; 170], e: E) ";
+    refused(
+        &format!("{shadowed} {{ if let E::X(a) = e {{}} else {{ let b = a; }} }}"),
+        "fn planted has locals of 340 bytes",
+    );
     locals_pass(
         "let a = [0u8; 338]; let b = a[0] as u64; let c = a.len(); let d = &a[1..]; let e = &a;",
     );
@@ -111,6 +119,9 @@ fn the_functions_of_a_type_stand_beside_it() {
         format!("{}\nfn planted() {{ let a = Half::give(); let b = a; }}", half("[u8; 170]"));
     let copy = SourceCopy::new().append(REPLIES, &half("u64"));
     refused_at(copy, root, &planted, "fn planted has locals of 340 bytes");
+    let variant = "enum E { A([u8; 170]), N } impl E { fn A(a: [u8; 170]) -> u64 { 0 } }";
+    let made = in_function("let a = E::A([0; 170]); let b = a;");
+    refused(&format!("{variant} {made}"), "fn planted has locals of 340 bytes");
     // A function that stands by itself is another one.
     let free = "fn give() -> [u8; 170] { give() } fn planted() { let a = give(); let b = a; }";
     refused(&format!("{} {free}", half("u64")), "fn planted has locals of 340 bytes");
@@ -124,6 +135,10 @@ fn patterns_bind_locals() {
     locals("let h = Half { bytes: [0; 170], word: 0 }; let Half { bytes, word } = h;", 340);
     locals("let h = Half { bytes: [0; 170], word: 0 }; let Half { bytes: a, .. } = h;", 340);
     locals("let a = [0u8; 170]; let &b = &a;", 340);
+    let buffer = "struct buffer { a: u64 } fn planted(a: [u8; 170]) { let buffer = a; }";
+    refused(buffer, "fn planted has locals of 340 bytes");
+    let lent = "match h { Held::Bytes(a) => a[0], Held::None => 0 }";
+    passes(&format!("{HALF} fn planted(a: [u8; 200], h: &Held) -> u8 {{ {lent} }}"));
     locals_pass("let h = Held::Bytes([0; 170]); match h { Held::Bytes(_) => {} _ => {} }");
     let either = "enum Either { A([u8; 150]), B([u8; 150]) }";
     passes(&format!(
@@ -136,6 +151,10 @@ fn what_has_no_name_counts_as_well() {
     locals("put(space, 0, &[0u8; 170]); put(space, 0, &[0u8; 170]);", 340);
     locals("let a = [0u8; 170]; put(space, 0, &Half { bytes: a, word: 0 }.bytes);", 340);
     locals("let a = [0u8; 170]; takes(Held::Bytes(a));", 340);
+    locals("let a = &[0u8; 170]; put(space, 0, &{ *a });", 340);
+    let rest = "fn gives() -> Half { gives() }";
+    let taken = in_function("let a = Half { word: 1, ..gives() };");
+    refused(&format!("{HALF} {rest} {taken}"), "fn planted has locals of 340 bytes");
     locals("let a = [0u8; 170]; match Held::Bytes(a) { _ => {} }", 340);
     locals("let a = [0u8; 170]; let b = [0u8; 170][0] as u64;", 340);
     locals("let a = [0u8; 170]; [0u8; 170];", 340);
