@@ -1,4 +1,4 @@
-//! Looks through a whole sources.
+//! Looks through all sources.
 
 use std::io;
 use std::path::Path;

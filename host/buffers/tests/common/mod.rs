@@ -36,23 +36,15 @@ impl SourceCopy {
         SourceCopy { root }
     }
 
-    /// Puts the sources themselves in place of the link to a crate.
-    fn own(&self, folder: &Path) {
-        let sources = fs::read_link(self.root.join(folder)).unwrap().join("src");
-        fs::remove_file(self.root.join(folder)).unwrap();
-        fs::create_dir_all(self.root.join(folder).join("src")).unwrap();
-        for entry in fs::read_dir(sources).unwrap() {
-            let file = entry.unwrap();
-            let copy = self.root.join(folder).join("src").join(file.file_name());
-            fs::copy(file.path(), copy).unwrap();
-        }
-    }
-
+    /// Writes a file, in a crate that from then on is no link.
     fn write(&self, path: &str, text: &str) {
         let file = self.root.join(path);
         let folder: PathBuf = Path::new(path).iter().take(2).collect();
-        if self.root.join(&folder).is_symlink() {
-            self.own(&folder);
+        let link = self.root.join(folder);
+        if link.is_symlink() {
+            let original = fs::read_link(&link).unwrap();
+            fs::remove_file(&link).unwrap();
+            copy_folder(&original.join("src"), &link.join("src"));
         }
         fs::create_dir_all(file.parent().unwrap()).unwrap();
         fs::write(file, text).unwrap();
@@ -118,6 +110,19 @@ impl SourceCopy {
     /// How many lines a file has.
     pub fn lines(&self, path: &str) -> usize {
         fs::read_to_string(self.root.join(path)).unwrap_or_default().lines().count()
+    }
+}
+
+fn copy_folder(from: &Path, to: &Path) {
+    fs::create_dir_all(to).unwrap();
+    for entry in fs::read_dir(from).unwrap() {
+        let entry = entry.unwrap();
+        let copy = to.join(entry.file_name());
+        if entry.path().is_dir() {
+            copy_folder(&entry.path(), &copy);
+        } else {
+            fs::copy(entry.path(), copy).unwrap();
+        }
     }
 }
 
