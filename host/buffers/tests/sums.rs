@@ -76,7 +76,7 @@ fn a_local_has_the_type_of_its_value() {
     locals("let a = [0u8; 170]; let b = if true { return } else { a };", 340);
     locals("let a = [0u8; 170]; let b = if true { return; let x = 1; } else { a };", 340);
     locals("let a = [0u8; 170]; let b = loop { break a; };", 340);
-    locals("let a = [0u8; 170]; let b = 'o: loop { loop { break 'o a; } };", 340);
+    locals("let a = [0u8; 170]; let b = 'o: loop { 'i: loop { break 'o a; } };", 340);
     locals("let a = [0u8; 170]; let b = { loop { break; } a };", 340);
     locals("let a = [0u8; 170]; let b; if true { b = return; } else { b = a; }", 340);
     locals("let a = [0u8; 170]; let b = { let c = 1; a };", 340);
@@ -135,6 +135,10 @@ fn patterns_bind_locals() {
     locals("let h = Half { bytes: [0; 170], word: 0 }; let Half { bytes, word } = h;", 340);
     locals("let h = Half { bytes: [0; 170], word: 0 }; let Half { bytes: a, .. } = h;", 340);
     locals("let a = [0u8; 170]; let &b = &a;", 340);
+    let constant = "match m[0] { A => 1, _ => 2 }";
+    passes(&format!(
+        "const A: u8 = 1; fn planted(m: &[u8]) -> u64 {{ let a = [0u8; 338]; {constant} }}"
+    ));
     let buffer = "struct buffer { a: u64 } fn planted(a: [u8; 170]) { let buffer = a; }";
     refused(buffer, "fn planted has locals of 340 bytes");
     let lent = "match h { Held::Bytes(a) => a[0], Held::None => 0 }";
