@@ -116,7 +116,12 @@ opened : (m : List ℕ) (a : Admission) → openingRefused m a ≡ none → open
 unfolding openTender
 opened m a h = rw h
 
--- closing past the cut-off, and allotting then
+-- allotting a closed tender
+pub allotting-accepted : (t : Tender) → bidsExceed (inState Closed t) ≡ false → allottingRefused (inState Closed t) ≡ none
+unfolding allottingRefused firstHolding isRevoked isOpen isAnnounced
+allotting-accepted t l = rw l
+
+-- closing past the cut-off
 module _ (t : Terms) (b : List Entry) (date time : ℕ) (past : PastCutOff t date time) where
   closing-accepted : closingRefused (openWith t b) date time ≡ none
   unfolding closingRefused firstHolding isRevoked isOver clockInvalid beforeCutOff
@@ -125,10 +130,6 @@ module _ (t : Terms) (b : List Entry) (date time : ℕ) (past : PastCutOff t dat
   closed : close (openWith t b) date time .1 ≡ inState Closed (openWith t b)
   unfolding close
   closed = rw closing-accepted
-
-  allotting-accepted : bidsExceed (inState Closed (openWith t b)) ≡ false → allottingRefused (inState Closed (openWith t b)) ≡ none
-  unfolding allottingRefused firstHolding isRevoked isOpen isAnnounced
-  allotting-accepted l = rw l
 
 -- the same receptions in another order
 module _ (t : Terms) (rs : List Reception) (agree : NoConflict t rs) where
@@ -139,38 +140,43 @@ module _ (t : Terms) (rs : List Reception) (agree : NoConflict t rs) where
           → m .sound ≡ true → n .sound ≡ true → m .code ≡ n .code → m .time ≡ n .time → m .bids ≡ n .bids
       go v w = rw (v .2, w .2) (agree (v .0) (w .0) (v .1) (w .1))
 
-  same-final : (rearranged : List Reception) → Rearranged rs rearranged → finalBook t rs ≡ finalBook t rearranged
+  pub same-final : (rearranged : List Reception) → Rearranged rs rearranged → finalBook t rs ≡ finalBook t rearranged
   same-final rearranged p =
       sym (bids-after t rs)
       ∙ ap bidsInBook (book-rearranged (t .admission .codes) (map (submission t) rs) (map (submission t) rearranged) (ten-each t rs) agreeing (rearranged-map (submission t) p))
       ∙ bids-after t rearranged
 
 -- what holds after the receptions
-module _ (m : List ℕ) (a : Admission) (h : openingRefused m a ≡ none) (rs : List Reception) (room : EnoughSpace rs) (date time : ℕ) (past : PastCutOff (termsOf m a) date time) where
-  book : List Entry
+module _ (m : List ℕ) (a : Admission) (h : openingRefused m a ≡ none) (rs : List Reception) (room : EnoughSpace rs) where
+  pub book : List Entry
   book = holdAllIn (map (submission (termsOf m a)) rs) (newBook (a .codes))
 
-  after-is : afterReceptions m a rs ≡ openWith (termsOf m a) book
+  pub after-is : afterReceptions m a rs ≡ openWith (termsOf m a) book
   unfolding book
   after-is = ap (λ (x : Tender). receiveAll x rs) (opened m a h) ∙ received-all (termsOf m a) rs (newBook (a .codes)) room
 
-  bids-are : bidsInBook book ≡ finalBook (termsOf m a) rs
+  pub bids-are : bidsInBook book ≡ finalBook (termsOf m a) rs
   unfolding book termsOf
   bids-are = bids-after (termsOf m a) rs
 
-  closed-is : afterClosing m a rs date time ≡ inState Closed (openWith (termsOf m a) book)
-  closed-is = ap (λ (x : Tender). close x date time .1) after-is ∙ closed (termsOf m a) book date time past
+-- and after closing
+module _ (m : List ℕ) (a : Admission) (h : openingRefused m a ≡ none) (rs : List Reception) (room : EnoughSpace rs) (date time : ℕ) (past : PastCutOff (termsOf m a) date time) where
+  abbrev held : List Entry
+  held = book m a h rs room
 
-  accepted : allottingRefused (inState Closed (openWith (termsOf m a) book)) ≡ none
-  accepted = allotting-accepted (termsOf m a) book date time past (subst (λ (x : Tender). bidsExceed x ≡ false) closed-is (closed-not-exceeding m a rs date time))
+  closed-is : afterClosing m a rs date time ≡ inState Closed (openWith (termsOf m a) held)
+  closed-is = ap (λ (x : Tender). close x date time .1) (after-is m a h rs room) ∙ closed (termsOf m a) held date time past
+
+  accepted : allottingRefused (inState Closed (openWith (termsOf m a) held)) ≡ none
+  accepted = allotting-accepted (openWith (termsOf m a) held) (subst (λ (x : Tender). bidsExceed x ≡ false) closed-is (closed-not-exceeding m a rs date time))
 
   settled : Settled m a rs date time (finalBook (termsOf m a) rs)
   unfolding close allot
   settled =
       record {
-        closes = ap (λ (x : Tender). closingRefused x date time) after-is ∙ closing-accepted (termsOf m a) book date time past;
+        closes = ap (λ (x : Tender). closingRefused x date time) (after-is m a h rs room) ∙ closing-accepted (termsOf m a) held date time past;
         allots = ap allottingRefused closed-is ∙ accepted;
-        awarded = ap (λ (x : Tender). allot x .2) closed-is ∙ rw (accepted, bids-are);
+        awarded = ap (λ (x : Tender). allot x .2) closed-is ∙ rw (accepted, bids-are m a h rs room);
       }
 
 pub any-latest : AnyLatest

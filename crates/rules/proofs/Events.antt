@@ -21,7 +21,7 @@ use Rattle.rules.specs.Opening.{Admission, Terms, rising, openingRefused
 use Rattle.rules.specs.Receiving.{Reception, bidOf, bidsIn, Error, Submission, submission, Entry, newEntry, newBook, takes, hold, returnedErrors}
 use Rattle.rules.specs.Calls.{State, Open, Closed, Announced, Revoked, Tender, inState, noTender, openTender, bidsInBook, bidsExceed, receivingRefused, bookAfter, answerWith, answerUnless, receive, closingRefused, close, allottingRefused, allot, revokingRefused, revoke}
 use Rattle.rules.specs.Events.{Event, receiveEvent, closeEvent, allotEvent, revokeEvent, nextTender, afterEvents, TenBids, entryCode, Kept}
-use Rattle.rules.specs.ArrivalOrder.{receiveAll, afterClosing}
+use Rattle.rules.specs.ArrivalOrder.{receiveAll, afterReceptions, afterClosing}
 use Rattle.rules.specs.Theorems.{EventsKeep, KeptIsBounded, BidsNeverExceed}
 use Rattle.rules.proofs.Opening.{few-codes, rising-codes}
 use Rattle.rules.proofs.Cancelling.{ten-places}
@@ -194,9 +194,14 @@ unfolding afterEvents nextTender receiveAll
 receptions-are-events t [] es = refl
 receptions-are-events t (r ∷ rs) es = receptions-are-events (receive t r .1) rs es
 
+not-exceeding-after : (m : List ℕ) (a : Admission) (rs : List Reception) (es : List Event) → bidsExceed (afterEvents (afterReceptions m a rs) es) ≡ false
+not-exceeding-after m a rs es =
+    subst (λ (x : Tender). bidsExceed x ≡ false) (receptions-are-events (openTender m a .1) rs es) (bids-never-exceed m a (map receiveEvent rs ++ es))
+
+pub open-not-exceeding : (m : List ℕ) (a : Admission) (rs : List Reception) → bidsExceed (afterReceptions m a rs) ≡ false
+unfolding afterEvents
+open-not-exceeding m a rs = not-exceeding-after m a rs []
+
 pub closed-not-exceeding : (m : List ℕ) (a : Admission) (rs : List Reception) (date time : ℕ) → bidsExceed (afterClosing m a rs date time) ≡ false
 unfolding afterEvents nextTender
-closed-not-exceeding m a rs date time =
-    subst (λ (x : Tender). bidsExceed x ≡ false)
-    (receptions-are-events (openTender m a .1) rs (closeEvent date time ∷ []))
-    (bids-never-exceed m a (map receiveEvent rs ++ (closeEvent date time ∷ [])))
+closed-not-exceeding m a rs date time = not-exceeding-after m a rs (closeEvent date time ∷ [])

@@ -16,5 +16,6 @@ pub mod Cancelling
 pub mod Events
 pub mod Book
 pub mod ArrivalOrder
+pub mod Previews
 pub mod Theorems
 pub mod Tables

@@ -13,7 +13,7 @@ use Rattle.rules.specs.Receiving.{bidsIn, when, senderErrors, dateErrors
 use Rattle.rules.specs.Allotment.{filled, betterRate, isIn, isBetter, isEqual, keep, total, totalBetter, totalEqual, binaryLengthWithin, binaryLength, firstDigits, divisionAt, division, share, shares, centsLeft, cent, award, awardsFrom, awards, sum, reaches, bestOf, bestRate, marginalRate}
 use Rattle.rules.specs.Cuts.{invests, isCapped, cutTo, cutAbove, leftOfCap, cutBid, cutFrom, cutBids, cutBook}
 use Rattle.rules.specs.Replies.{confirmation, errorText, errorTexts, shown, returnedMessage}
-use Rattle.rules.specs.Calls.{openTender, isRevoked, isOver, clockInvalid, spaceShort, bidsInBook, receivingRefused, reply, bookAfter, answerTo, answerWith, answerUnless, receive, beforeCutOff, isOpen, isAnnounced, bidsExceed, closingRefused, close, allottingRefused, allot, revokingRefused, revoke, bidsTaken, bidAwards, awardsGiven, marginalGiven, in640, allotment}
+use Rattle.rules.specs.Calls.{openTender, isRevoked, isOver, clockInvalid, spaceShort, bidsInBook, receivingRefused, reply, bookAfter, answerTo, answerWith, answerUnless, receive, beforeCutOff, isOpen, isAnnounced, bidsExceed, closingRefused, close, allottingRefused, allot, previewRefused, preview, revokingRefused, revoke, bidsTaken, bidAwards, awardsGiven, marginalGiven, in640, allotment}
 use Rattle.rules.specs.Events.{nextTender, afterEvents}
 use Rattle.rules.specs.ArrivalOrder.{receiveAll}
 use Rattle.rules.specs.Messages.{altered, bySlashes, characteristicsWith, announcementWith, announcement, terms, ten, numbersBetween, numbers, message, messageWith, zeroPlaces, reception}
@@ -27,7 +27,7 @@ unfolding sameText field oneOf starts readable offset content encoded allDigits 
 marked-cases = tt
 
 pub rows-hold : RowsHold
-unfolding sameText field oneOf starts readable offset content encoded allDigits numberFrom digitsOf digits daysIn isBranch branchAddress addressOf addressText isPlace placeOf placesIn placeText placesText firstHolding layout6G0 tenderTypeOf joined numbersIn characteristicsOf referencesOf announcementOf layout6G1 fieldsOf isIdentifier written any notAnnouncement otherOrigin wellFormed malformedAnnouncement unknownType impossible impossibleNumbers datesDisordered rising badCodes limitsMiscounted limitTooLong openingRefused termsOf bidsIn when senderErrors dateErrors gap fineRate smallBid unevenBid overMaximum bidErrors placeErrors errors isEmpty isSound submission cancels newEntry newBook isAfter isFrom takes hold returnedErrors filled keep total confirmation errorText errorTexts shown returnedMessage openTender isRevoked isOver clockInvalid spaceShort bidsInBook receivingRefused reply bookAfter answerTo answerWith answerUnless receive beforeCutOff isOpen isAnnounced bidsExceed closingRefused close allottingRefused allot revokingRefused revoke in640 betterRate isIn altered bySlashes characteristicsWith announcementWith announcement terms ten numbersBetween numbers message messageWith zeroPlaces reception numbersFit textsFit placesFit write receiveAll tenderAfter allHold rising65 openingRows openingOrderRows literal6G0 built6G0 termNumbers termRows application opened wide narrow closedWith receiving nextTender afterEvents stateRows afterwards eventRows answer second098 errorRows collected malformedFields otherFields errorOrderRows fiveErrors sixErrors returnedWith replyRows literal6G1 submittedNumbers literalRows numbersWith writingRows literalBetween addressRows addressWritingRows
+unfolding sameText field oneOf starts readable offset content encoded allDigits numberFrom digitsOf digits daysIn isBranch branchAddress addressOf addressText isPlace placeOf placesIn placeText placesText firstHolding layout6G0 tenderTypeOf joined numbersIn characteristicsOf referencesOf announcementOf layout6G1 fieldsOf isIdentifier written any notAnnouncement otherOrigin wellFormed malformedAnnouncement unknownType impossible impossibleNumbers datesDisordered rising badCodes limitsMiscounted limitTooLong openingRefused termsOf bidsIn when senderErrors dateErrors gap fineRate smallBid unevenBid overMaximum bidErrors placeErrors errors isEmpty isSound submission cancels newEntry newBook isAfter isFrom takes hold returnedErrors filled keep total confirmation errorText errorTexts shown returnedMessage openTender isRevoked isOver clockInvalid spaceShort bidsInBook receivingRefused reply bookAfter answerTo answerWith answerUnless receive beforeCutOff isOpen isAnnounced bidsExceed closingRefused close allottingRefused allot previewRefused preview revokingRefused revoke in640 betterRate isIn altered bySlashes characteristicsWith announcementWith announcement terms ten numbersBetween numbers message messageWith zeroPlaces reception numbersFit textsFit placesFit write receiveAll tenderAfter allHold rising65 openingRows openingOrderRows literal6G0 built6G0 termNumbers termRows application opened wide narrow closedWith receiving nextTender afterEvents stateRows afterwards eventRows answer second098 errorRows collected malformedFields otherFields errorOrderRows fiveErrors sixErrors returnedWith replyRows literal6G1 submittedNumbers literalRows numbersWith writingRows literalBetween addressRows addressWritingRows
 rows-hold = tt
 
 pub limit-rows-hold : LimitRowsHold

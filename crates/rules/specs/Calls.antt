@@ -1,4 +1,4 @@
--- The calls on a tender: what each refuses, answers and leaves (document 01, 'What a call refuses'). Assumes nothing.
+-- The calls on a tender: what each refuses, answers and leaves (document 01, 'What a call refuses'; document 02). Assumes nothing.
 use mathlib.Core.Bool.{Bool, true, false, not, _&&_}
 use mathlib.Core.List.{List, [], _∷_, _++_, map}
 use mathlib.Core.Option.{Option, none, some}
@@ -178,6 +178,14 @@ allot t = (
   unlessRefused (allottingRefused t) t (inState Announced t),
   unlessRefused (allottingRefused t) notAllotted (allotment (t .terms) (bidsInBook (t .book))),
 )
+
+-- document 02, S-4, a preview: 'Refused: as for allotting, without 14'
+unfoldable pub previewRefused : Tender → Option ℕ
+previewRefused t = firstHolding ((8, isRevoked (t .state)) ∷ (15, isAnnounced (t .state)) ∷ (16, bidsExceed t) ∷ [])
+
+-- '.. and the tender stays open. It needs no clock.'
+unfoldable pub preview : Tender → Option ℕ × Tender × Allotted
+preview t = (previewRefused t, t, unlessRefused (previewRefused t) notAllotted (allotment (t .terms) (bidsInBook (t .book))))
 
 -- 'revoking 8, 15'
 unfoldable pub revokingRefused : Tender → Option ℕ

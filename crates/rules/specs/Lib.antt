@@ -6,6 +6,7 @@ pub mod Replies
 pub mod Calls
 pub mod Events
 pub mod ArrivalOrder
+pub mod Previews
 pub mod Theorems
 pub mod Messages
 pub mod Marked

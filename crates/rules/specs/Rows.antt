@@ -16,7 +16,7 @@ use Rattle.envelope.specs.Application.{position, readingRefused, writingRefused
 use Rattle.rules.specs.Allotment.{total}
 use Rattle.rules.specs.Receiving.{Reception, Submission, submission, Entry, errors}
 use Rattle.rules.specs.Replies.{errorTexts}
-use Rattle.rules.specs.Calls.{State, Open, Closed, Announced, Revoked, Tender, inState, Answer, confirmed, returned, refused, replySpace, openTender, receivingRefused, receive, closingRefused, close, allottingRefused, in640, allot, revokingRefused, revoke}
+use Rattle.rules.specs.Calls.{State, Open, Closed, Announced, Revoked, Tender, inState, Answer, confirmed, returned, refused, replySpace, openTender, receivingRefused, receive, closingRefused, close, allottingRefused, in640, allot, previewRefused, preview, revokingRefused, revoke}
 use Rattle.rules.specs.Events.{Event, receiveEvent, closeEvent, allotEvent, revokeEvent, afterEvents}
 use Rattle.rules.specs.Messages.{_is_, Most, Maximum, announcementWith, announcement, admission, terms, Pairs, numbersBetween, numbers, message, messageWith, zeroPlaces, reception}
 use Rattle.rules.specs.Marked.{code, rate, amount, Row, row, allHold, listOf, tenderAfter}
@@ -62,6 +62,9 @@ closing t date time = listOf (closingRefused t date time)
 abbrev pub allotting : Tender → List ℕ
 allotting t = listOf (allottingRefused t)
 
+abbrev pub previewing : Tender → List ℕ
+previewing t = listOf (previewRefused t)
+
 abbrev pub revoking : Tender → List ℕ
 revoking t = listOf (revokingRefused t)
 
@@ -105,6 +108,16 @@ stateRows =
     ∷ row 640 (in640 (10000 ∷ 5 ∷ [])) (10000 ∷ 5 ∷ replicate 638 0)
     ∷ row 0 (revoking opened) []
     ∷ row 0 (revoking (inState Closed opened)) []
+    -- a preview: states and condition 16 at once; refused it gives 640 zeros
+    ∷ row 8 (previewing (inState Revoked (closedWith 1000000000000000000))) (8 ∷ [])
+    ∷ row 15 (previewing (inState Announced (closedWith 1000000000000000000))) (15 ∷ [])
+    ∷ row 16 (previewing (inState Open (closedWith 1000000000000000000))) (16 ∷ [])
+    ∷ row 16 (previewing (closedWith 1000000000000000000)) (16 ∷ [])
+    ∷ row 16 (previewing (inState Open (closedWith 999999999999999999))) []
+    ∷ row 0 (previewing opened) []
+    ∷ row 0 (previewing (inState Closed opened)) []
+    ∷ row 15 (preview (inState Announced opened) .2 .awards) (replicate 640 0)
+    ∷ row 15 (listOf (preview (inState Announced opened) .2 .marginal)) []
     -- a refused opening gives a tender on which every call is refused
     ∷ row 8 (closing (openTender [] admission .1) 12032012 110001) (8 ∷ [])
     ∷ []
