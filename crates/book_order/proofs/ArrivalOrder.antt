@@ -7,7 +7,7 @@ use Prim.Native.Nat.{ℕ, zero, suc}
 use native.Mathlib.Omega.{arith}
 use lib.Dec.{leb}
 use lib.ListN.{length}
-use Rattle.envelope.specs.Refusals.{firstHolding, unlessRefused, orZero}
+use Rattle.envelope.specs.Refusals.{firstHolding, orZero}
 use Rattle.rules.specs.Allotment.{sum}
 use Rattle.rules.specs.Opening.{Admission, notAnnouncement, otherOrigin, malformedAnnouncement, unknownType, impossibleNumbers, datesDisordered, badCodes, limitsMiscounted, limitTooLong, openingRefused}
 use Rattle.rules.specs.Receiving.{Reception}
@@ -16,17 +16,17 @@ use Rattle.rules.specs.ArrivalOrder.{receiveAll, afterReceptions, afterClosing}
 use Rattle.rules.proofs.ArrivalOrder.{arrival-order}
 use Rattle.numbers.specs.Numbers.{inArray}
 use Rattle.buffer.specs.Words.{tenderWords, tenderIn, isTender}
-use Rattle.optes_book.specs.Interface.{marginalNumbers, Opens}
+use Rattle.optes_book.specs.Interface.{marginalNumbers, awardsTold, marginalTold, Opens}
 use Rattle.optes_book.proofs.Calls.{told-all}
 use Rattle.book_order.specs.ArrivalOrder.{ReceivesAll, no-more, and-next, Run, finalAllotment, ArrivalOrderFromC}
 
 -- no condition of opening has the number zero
-numbered : List (ℕ × Bool) → Bool
+unfoldable pub numbered : List (ℕ × Bool) → Bool
 numbered [] = true
 numbered ((zero, b) ∷ conditions) = false
 numbered ((suc n, b) ∷ conditions) = numbered conditions
 
-none-holds : (conditions : List (ℕ × Bool)) → numbered conditions ≡ true → orZero (firstHolding conditions) ≡ 0 → firstHolding conditions ≡ none
+pub none-holds : (conditions : List (ℕ × Bool)) → numbered conditions ≡ true → orZero (firstHolding conditions) ≡ 0 → firstHolding conditions ≡ none
 unfolding numbered firstHolding
 none-holds [] h e = refl
 none-holds ((zero, b) ∷ conditions) h e = absurd (false≢true h)
@@ -68,7 +68,7 @@ module _ (ws m : List ℕ) (a : Admission) (first : List ℕ) (opens : Opens ws 
   roomy : leb tenderWords (length ws) ≡ true
   roomy = room-then (leb tenderWords (length ws)) zero-is
 
-  accepted : openingRefused m a ≡ none
+  pub accepted : openingRefused m a ≡ none
   accepted = opening-accepted m a (sym (zero-is ∙ ap answer roomy))
 
 -- the words stay a tender, and the tender of the rules
@@ -79,18 +79,22 @@ received-all g (and-next {xs = xs} r told space₂ told₂ e more) =
     let next = received-all (e .given g) more in
     (next .0, next .1 ∙ ap (λ (t : rules.Tender). receiveAll t xs) (e .tender g))
 
+-- after an opening that returns 0 and receptions
+pub received-tender : (m : List ℕ) (a : Admission) (rs : List Reception) (ws first last : List ℕ) → Opens ws m a 0 first → ReceivesAll first rs last
+    → (isTender last ≡ true) × (tenderIn last ≡ afterReceptions m a rs)
+received-tender m a rs ws first last o more =
+    let room = roomy ws m a first o in
+    let h = accepted ws m a first o in
+    let r = received-all (o .given room h) more in
+    (r .0, r .1 ∙ ap (λ (t : rules.Tender). receiveAll t rs) (o .tender room h))
+
 module _ (m : List ℕ) (a : Admission) (rs : List Reception) (date time closed allotted : ℕ) (awards told awards₂ told₂ : List ℕ)
     (run : Run m a rs date time 0 closed allotted awards told awards₂ told₂) where
   not-refused : openingRefused m a ≡ none
   not-refused = accepted (run .ws) m a (run .first) (run .opens)
 
-  room : leb tenderWords (length (run .ws)) ≡ true
-  room = roomy (run .ws) m a (run .first) (run .opens)
-
   received : (isTender (run .last) ≡ true) × (tenderIn (run .last) ≡ afterReceptions m a rs)
-  received =
-      let r = received-all (run .opens .given room not-refused) (run .receives) in
-      (r .0, r .1 ∙ ap (λ (t : rules.Tender). receiveAll t rs) (run .opens .tender room not-refused))
+  received = received-tender m a rs (run .ws) (run .first) (run .last) (run .opens) (run .receives)
 
   -- closing
   closing-is : rules.close (tenderIn (run .last)) date time ≡ rules.close (afterReceptions m a rs) date time
@@ -110,7 +114,7 @@ module _ (m : List ℕ) (a : Admission) (rs : List Reception) (date time closed 
 
   -- allotting
   abbrev shown : Option ℕ × rules.Tender × rules.Allotted → ℕ × List ℕ × List ℕ
-  shown x = (orZero (x .0), unlessRefused (x .0) awards (inArray (x .2 .awards) awards), unlessRefused (x .0) told (inArray (marginalNumbers (x .2 .marginal)) told))
+  shown x = (orZero (x .0), awardsTold (x .0) (x .2) awards, marginalTold (x .0) (x .2) told)
 
   allotting-is : _≡_ {A = ℕ × List ℕ × List ℕ} (allotted, awards₂, told₂) (shown (rules.allot (afterClosing m a rs date time)))
   allotting-is =
@@ -122,7 +126,7 @@ module _ (m : List ℕ) (a : Admission) (rs : List Reception) (date time closed 
       → _≡_ {A = ℕ × List ℕ × List ℕ} (allotted, awards₂, told₂) (0, inArray (x .awards) awards, inArray (marginalNumbers (x .marginal)) told)
   allotted-told x h e =
       allotting-is
-      ∙ ap₂ (λ (l : Option ℕ) (y : rules.Allotted). (orZero l, unlessRefused l awards (inArray (y .awards) awards), unlessRefused l told (inArray (marginalNumbers (y .marginal)) told))) h e
+      ∙ ap₂ (λ (l : Option ℕ) (y : rules.Allotted). (orZero l, awardsTold l y awards, marginalTold l y told)) h e
 
 pub arrival-order-from-c : ArrivalOrderFromC
 arrival-order-from-c m a rs rearranged date time date₂ time₂ opened opened₂ closed closed₂ allotted allotted₂ awards told given shown awards₂ told₂ given₂ shown₂ run run₂ zero₁ zero₂ space agree order past past₂ =

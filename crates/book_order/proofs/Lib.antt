@@ -1,1 +1,2 @@
 pub mod ArrivalOrder
+pub mod Previews

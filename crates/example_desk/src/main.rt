@@ -4,6 +4,7 @@ mod lines;
 mod messages;
 
 use messages::application;
+use tender::Allotted;
 use tender::Tender;
 use tender::number_of;
 use terms::number_of_answer;
@@ -48,17 +49,33 @@ fn close(t: Tender, time: u64) -> Tender
     closed.tender
 }
 
-// Allots, and prints what was allotted.
+// Prints what was allotted, or what would be.
+fn show(a: Allotted) {
+    let refusal = a.refusal;
+    let marginal = a.marginal;
+    lines::answer(number_of(refusal));
+    lines::awards(a);
+    lines::marginal(marginal);
+}
+
+// Previews the awards, at any hour; the tender stays as it is.
+fn preview(t: Tender) -> Tender
+    requires { ⌜ Given t ⌝ }
+    ensures { λ r. ⌜ Given r ⌝ }
+{
+    let previewed = t.preview();
+    printing::text(b"preview");
+    show(previewed);
+    previewed.tender
+}
+
+// Allots.
 fn allot(t: Tender)
     requires { ⌜ Given t ⌝ }
 {
     let allotted = t.allot();
-    let refusal = allotted.refusal;
-    let marginal = allotted.marginal;
     printing::text(b"allot");
-    lines::answer(number_of(refusal));
-    lines::awards(allotted);
-    lines::marginal(marginal);
+    show(allotted);
 }
 
 fn main() {
@@ -78,6 +95,7 @@ fn main() {
     let t = open(announcement);
     let t = receive(t, &application(90002, 102900, 150000, 60000), 103000);
     let t = receive(t, &application(90001, 103100, 120000, 50000), 103101);
+    let t = preview(t);
     let t = receive(t, &application(90003, 103400, 120000, 40000), 103500);
     let t = receive(t, &application(90002, 102000, 150000, 60000), 104000);
     let t = close(t, 110000);

@@ -1,4 +1,3 @@
 pub mod Changing
 pub mod Fitting
 pub mod Leaving
-pub mod Allotting

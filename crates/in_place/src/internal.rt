@@ -1,9 +1,8 @@
 // Each call asks for words that hold a tender, and leaves such words.
 use addresses::code_of;
-use book::up_to_64;
 use buffer::internal::terms_in;
-use buffer::narrow;
 use buffer::state_of;
+use buffer_allotment::internal::awards_in;
 use buffer_search::internal::find;
 use buffer_search::internal::takes;
 use digits::number_of;
@@ -11,7 +10,6 @@ use errors::Errors;
 use errors::none;
 use outcomes::internal::AllotAnswer;
 use outcomes::internal::Outcome;
-use outcomes::internal::allot_bids;
 use outcomes::internal::is_held;
 use outcomes::internal::judged;
 use outcomes::internal::receiving_checks;
@@ -21,18 +19,19 @@ use places::Rate;
 use reception::internal::put_reply;
 use refusals::Refusal;
 use refusals::close_refusal;
+use refusals::ended_refusal;
 use refusals::is_refused;
-use refusals::revoke_refusal;
+use refusals::not_closed;
 ghost use mathlib.Core.Path.{_≡_};
 ghost use mathlib.Core.Bool.{true};
 ghost use mathlib.Core.List.{map};
 ghost use Prim.Native.Nat.{_+_, _≤_, _<_};
-ghost use lib.ListN.{length, take, replicate};
+ghost use lib.ListN.{length, replicate};
 ghost use lib.Seq.{sets};
 ghost use Rattle.rules.specs.Calls.{close, revoke};
 ghost use Rattle.bids.specs.Columns.{cents};
 ghost use Rattle.book.specs.Viewed.{hundredThousandths};
-ghost use Rattle.buffer.specs.Words.{tenderWords, part, low32, storedRate, tenderIn, isTender};
+ghost use Rattle.buffer.specs.Words.{storedRate, tenderIn, isTender};
 ghost use Rattle.in_place.specs.InPlace.{ComesIn, LeavesIn, ReceivesIn, ChangesIn, AllotsIn};
 
 // What a reception tells: why it is refused, else the errors with which the message is returned, and the length of the reply.
@@ -155,7 +154,7 @@ pub fn revoke_in(words: &mut [u64]) -> Refusal
     requires { ⌜ isTender (now words) ≡ true ⌝ }
     ensures { λ r. ⌜ ChangesIn (now (words .entry)) (revoke (tenderIn (now (words .entry)))) 3 r (now (words .exit)) ⌝ }
 {
-    let refusal = revoke_refusal(state_of(words[1]));
+    let refusal = ended_refusal(state_of(words[1]));
     if is_refused(refusal) {
         return refusal;
     }
@@ -163,38 +162,13 @@ pub fn revoke_in(words: &mut [u64]) -> Refusal
     refusal
 }
 
-// The rates of the first places.
-fn rates_in(words: &[u64], end: usize) -> [u32; 640]
-    requires { ⌜ (tenderWords ≤ length (now words)) × (end ≤ 640) ⌝ }
-    ensures { λ r. ⌜ take end r ≡ take end (map low32 (part 216 640 (now (words .entry)))) ⌝ }
-{
-    let mut rates = [0u32; 640];
-    let mut i = 0;
-    while i < end {
-        rates[i] = narrow(words[216 + i]);
-        i += 1;
-    }
-    rates
-}
-
 // Allots the offer of a closed tender to the bids in its book; the awards are zeros before.
 pub fn allot_in(words: &mut [u64], awards: &mut [u64]) -> AllotAnswer
     requires { ⌜ (isTender (now words) ≡ true) × (now awards ≡ replicate 640 0) ⌝ }
     ensures { λ r. ⌜ AllotsIn (now (words .entry)) r (now (words .exit)) (now (awards .exit)) ⌝ }
 {
-    let n = up_to_64(words[2] as usize);
-    let end = 10 * n;
-    let rates = rates_in(words, end);
-    let terms = terms_in(words);
     let state = state_of(words[1]);
-    let answer = allot_bids(
-        state,
-        terms,
-        &words[1496..1496 + n],
-        &rates[0..end],
-        &words[856..856 + end],
-        &mut awards[0..end],
-    );
+    let answer = awards_in(words, not_closed(state), awards);
     let refusal = answer.refusal;
     if is_refused(refusal) {
         return answer;

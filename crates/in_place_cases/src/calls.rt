@@ -1,5 +1,6 @@
 // The calls in place, each on words of its own. Words that hold no tender are answered with the number
 // 99, which no call gives.
+use buffer_allotment::internal::preview_in;
 use buffer_opening::internal::open_in;
 use buffer_questions::is_tender;
 use errors::none;
@@ -9,6 +10,7 @@ use in_place::internal::close_in;
 use in_place::internal::receive_in;
 use in_place::internal::revoke_in;
 use marginal::MarginalRate;
+use outcomes::internal::AllotAnswer;
 use refusals::Refusal;
 use refusals::number_of;
 use terms::number_of_answer;
@@ -56,7 +58,7 @@ pub fn revoke(before: [u64; 1560]) -> After {
     }
 }
 
-// What allotting gives too.
+// What an allotment or a preview gives too.
 pub struct Awarded {
     pub number: u64,
     pub words: [u64; 1560],
@@ -64,19 +66,8 @@ pub struct Awarded {
     pub marginal: MarginalRate,
 }
 
-// Allots a tender.
-pub fn allot(before: [u64; 1560]) -> Awarded {
-    let mut words = before;
-    let mut awards = [0u64; 640];
-    if !is_tender(&words) {
-        return Awarded {
-            number: 99,
-            words,
-            awards,
-            marginal: MarginalRate::None,
-        };
-    }
-    let answer = allot_in(&mut words, &mut awards);
+// What an answer gives, with the awards and the words after it.
+fn given_by(answer: AllotAnswer, words: [u64; 1560], awards: [u64; 640]) -> Awarded {
     let refusal = answer.refusal;
     let marginal = answer.marginal;
     Awarded {
@@ -85,6 +76,37 @@ pub fn allot(before: [u64; 1560]) -> Awarded {
         awards,
         marginal,
     }
+}
+
+// Words that hold no tender.
+fn no_tender(words: [u64; 1560]) -> Awarded {
+    Awarded {
+        number: 99,
+        words,
+        awards: [0u64; 640],
+        marginal: MarginalRate::None,
+    }
+}
+
+// Allots a tender.
+pub fn allot(before: [u64; 1560]) -> Awarded {
+    let mut words = before;
+    if !is_tender(&words) {
+        return no_tender(words);
+    }
+    let mut awards = [0u64; 640];
+    let answer = allot_in(&mut words, &mut awards);
+    given_by(answer, words, awards)
+}
+
+// Previews a tender.
+pub fn preview(words: [u64; 1560]) -> Awarded {
+    if !is_tender(&words) {
+        return no_tender(words);
+    }
+    let mut awards = [0u64; 640];
+    let answer = preview_in(&words, &mut awards);
+    given_by(answer, words, awards)
 }
 
 // How much of a message is received and when, and how much room there is for the reply.

@@ -15,6 +15,10 @@ fn main() {
     sessions::run(b"vwxaCA");
     // Tenders revoked open and closed.
     sessions::run(b"aVasnCAVOaCVanCAV");
+    // Previews of an empty book, after each reception, a cancellation and a closing that is refused, of the closed tender, the announced and the
+    // revoked one; then of cut bids and in LA.
+    sessions::run(b"PaPbPcPdPkPDPCPAPOaVP");
+    sessions::run(b"KbPmPqPCPAMjPCPA");
     // Credit limits in LP with calls refused, for one code alone and in LA; then openings refused for their limits.
     sessions::run(b"KbnmkqsADBCaAACVKmCAMjCAKmVFGWYZ");
 }

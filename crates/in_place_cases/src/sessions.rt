@@ -17,6 +17,7 @@ use crate::steps::Both;
 use crate::steps::allot;
 use crate::steps::close;
 use crate::steps::open;
+use crate::steps::preview;
 use crate::steps::receive;
 use crate::steps::revoke;
 ghost use Prim.Native.Nat.{_≤_};
@@ -134,13 +135,16 @@ fn reception(k: u8) -> Reception {
     }
 }
 
-// A step: A allots, V revokes, B, C and D close, other capitals open, small letters receive.
+// A step: A allots, P previews, V revokes, B, C and D close, other capitals open, small letters receive.
 fn step(b: Both, k: u8) -> Both
     requires { ⌜ Given (b .tender) ⌝ }
     ensures { λ r. ⌜ Given (r .tender) ⌝ }
 {
     if k == b'A' {
         return allot(b);
+    }
+    if k == b'P' {
+        return preview(b);
     }
     if k == b'V' {
         return revoke(b);

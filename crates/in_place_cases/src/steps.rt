@@ -1,5 +1,6 @@
 // Each call both ways. What it is, its answer and whether both ways gave the same are printed as one line.
 use crate::calls;
+use crate::calls::Awarded;
 use crate::calls::Reception;
 use crate::calls::Replied;
 use crate::comparing::all_same;
@@ -9,6 +10,7 @@ use crate::comparing::same_rate;
 use crate::comparing::same_spaces;
 use crate::comparing::same_tender;
 use refusals::number_of;
+use tender::Allotted;
 use tender::Received;
 use tender::Tender;
 use terms::number_of_answer;
@@ -215,6 +217,26 @@ fn total(awards: [u64; 640]) -> u64 {
     sum
 }
 
+// What an allotment or a preview gave by value and in place.
+fn awarded(r: Allotted, after: Awarded) -> Both
+    requires { ⌜ Given (r .tender) ⌝ }
+    ensures { λ b. ⌜ Given (b .tender) ⌝ }
+{
+    let tender = r.tender;
+    let refusal = r.refusal;
+    let number = number_of(refusal);
+    let awards = r.awards;
+    let marginal = r.marginal;
+    let rate = after.marginal;
+    let cents = after.awards;
+    let words = after.words;
+    printing::text(b" total");
+    printing::number(total(cents));
+    let same = same_awards(awards, cents) & same_rate(marginal, rate) & same_tender(tender, words);
+    line(number, (number == after.number) & same);
+    Both { tender, words }
+}
+
 // Allots a tender.
 pub fn allot(b: Both) -> Both
     requires { ⌜ Given (b .tender) ⌝ }
@@ -224,20 +246,19 @@ pub fn allot(b: Both) -> Both
     let words = b.words;
     printing::text(b"allotting");
     let r = t.allot();
-    let tender = r.tender;
-    let refusal = r.refusal;
-    let number = number_of(refusal);
-    let awards = r.awards;
-    let marginal = r.marginal;
     let after = calls::allot(words);
-    let rate = after.marginal;
-    let awarded = after.awards;
-    let words = after.words;
-    printing::text(b" total");
-    printing::number(total(awarded));
-    let same = same_awards(awards, awarded)
-        & same_rate(marginal, rate)
-        & same_tender(tender, words);
-    line(number, (number == after.number) & same);
-    Both { tender, words }
+    awarded(r, after)
+}
+
+// Previews a tender, whose words stay.
+pub fn preview(b: Both) -> Both
+    requires { ⌜ Given (b .tender) ⌝ }
+    ensures { λ r. ⌜ Given (r .tender) ⌝ }
+{
+    let t = b.tender;
+    let words = b.words;
+    printing::text(b"previewing");
+    let r = t.preview();
+    let after = calls::preview(words);
+    awarded(r, after)
 }

@@ -19,20 +19,22 @@ use Rattle.rules.specs.Calls.{answerTo}
 use Rattle.errors.specs.declared.Errors.{Errors}
 use Rattle.errors.specs.Listed.{named, listed}
 use Rattle.book.proofs.Empty.{zeros-after}
-use Rattle.marginal.specs.Ranks.{rateIn}
 use Rattle.numbers.specs.Numbers.{inArray}
 use Rattle.terms.specs.declared.OpenAnswer.{OpenAnswer}
 use Rattle.terms.specs.Viewed.{openRefusal}
 use Rattle.refusals.specs.declared.Refusal.{Refusal}
 use Rattle.refusals.specs.Conditions.{refusalNumber, isSome}
+use Rattle.refusals.proofs.Conditions.{kept-old}
 use Rattle.outcomes.specs.declared.internal.AllotAnswer.{AllotAnswer}
 use Rattle.outcomes.specs.Answers.{answerIn, answerOf, unlessConfirmed}
 use Rattle.buffer.specs.Words.{tenderWords, tenderIn, isTender}
 use Rattle.buffer_opening.specs.Opening.{held, openedNumbers, OpensIn}
 use Rattle.buffer_opening.proofs.Opened.{zeros}
+use Rattle.buffer_allotment.specs.Allotted.{allottedIn, PreviewsIn}
 use Rattle.in_place.specs.declared.internal.Told.{Told}
 use Rattle.in_place.specs.InPlace.{acceptedIn, holdingOf, ReceivesIn, ChangesIn, AllotsIn}
-use Rattle.optes_book.specs.Interface.{ifTender, answerNumber, codeOf, answerNumbers, toldOf, marginalNumbers, Opens, Receives, Changes, Allots}
+use Rattle.optes_book.specs.Interface.{ifTender, answerNumber, codeOf, answerNumbers, toldOf, marginalNumbers, awardsTold, marginalTold, Opens, Receives, Changes, Allots, Previews}
+use Rattle.optes_book.specs.Parts.{TellsAllotment}
 
 module _ (ws : List ℕ) {A : Type 0} (told untold : A) where
   pub told-not : isTender ws ≡ false → untold ≡ ifTender ws told untold
@@ -153,18 +155,24 @@ answer-told e n few long w =
     ∙ ap (λ (l : List ℕ). n ∷ (e .n ∷ (map codeOf (listed e) ++ l))) (zeros-after (e .n) 16 few)
     ∙ ap (λ (k : ℕ). n ∷ (k ∷ (map codeOf (listed e) ++ replicate (16 - k) 0))) (sym count)
 
-pub kept-new : {A : Type 0} (l : Option ℕ) (old new : A) → l ≡ none → new ≡ unlessRefused l old new
-kept-new l old new h = sym (ap (λ (k : Option ℕ). unlessRefused k old new) h)
+-- what is told of an allotment that is refused, and of one that is not
+module _ (refusal : Refusal) (given : rules.Allotted) (awards told : List ℕ) where
+  pub tells-refused : isSome (refusalNumber refusal) ≡ true → (r : ℕ) → r ≡ orZero (refusalNumber refusal) → TellsAllotment refusal given awards told r awards told
+  tells-refused h r e =
+      λ i. (e i, sym (kept-old (refusalNumber refusal) awards (inArray (given .awards) awards) h) i, sym (kept-old (refusalNumber refusal) told (inArray (marginalNumbers (given .marginal)) told) h) i)
 
--- allotting
+  pub tells-all : refusalNumber refusal ≡ none → (awards₂ told₂ : List ℕ) → awards₂ ≡ inArray (given .awards) awards → told₂ ≡ inArray (marginalNumbers (given .marginal)) told
+      → TellsAllotment refusal given awards told 0 awards₂ told₂
+  tells-all h awards₂ told₂ e f =
+      (λ i. (0, e i, f i)) ∙ ap (λ (l : Option ℕ). (orZero l, awardsTold l given awards, marginalTold l given told)) (sym h)
+
+-- allotting and previewing
 module _ (ws awards told : List ℕ) where
   abbrev allotted : Option ℕ × rules.Tender × rules.Allotted → ℕ × List ℕ × List ℕ × List ℕ
-  allotted x = (
-    orZero (x .0),
-    unlessRefused (x .0) ws (set ws 1 2),
-    unlessRefused (x .0) awards (inArray (x .2 .awards) awards),
-    unlessRefused (x .0) told (inArray (marginalNumbers (x .2 .marginal)) told),
-  )
+  allotted x = (orZero (x .0), unlessRefused (x .0) ws (set ws 1 2), awardsTold (x .0) (x .2) awards, marginalTold (x .0) (x .2) told)
+
+  abbrev previewed : Option ℕ × rules.Tender × rules.Allotted → ℕ × List ℕ × List ℕ
+  previewed x = (orZero (x .0), awardsTold (x .0) (x .2) awards, marginalTold (x .0) (x .2) told)
 
   pub allots-not : isTender ws ≡ false → Allots ws awards told 100 ws awards told
   allots-not h =
@@ -174,13 +182,17 @@ module _ (ws awards told : List ℕ) where
         given = λ q. absurd (false≢true (sym h ∙ q));
       }
 
-  pub allots-in : isTender ws ≡ true → (a : AllotAnswer) (after cents : List ℕ) → AllotsIn ws a after cents → (r : ℕ) (awards₂ told₂ : List ℕ) → r ≡ orZero (refusalNumber (a .refusal))
-      → awards₂ ≡ unlessRefused (refusalNumber (a .refusal)) awards (inArray cents awards)
-      → told₂ ≡ unlessRefused (refusalNumber (a .refusal)) told (inArray (marginalNumbers (rateIn (a .marginal))) told)
-      → Allots ws awards told r after awards₂ told₂
-  allots-in h a after cents i r awards₂ told₂ e f g =
-      record {
-        equal = (λ j. (e j, i .numbers j, f j, g j)) ∙ ap allotted (i .equal) ∙ told-all ws (allotted (rules.allot (tenderIn ws))) (100, ws, awards, told) h;
-        tender = λ q. ap (λ (p : Option ℕ × rules.Tender × rules.Allotted). p .1) (i .equal);
-        given = λ q. i .given;
-      }
+  pub previews-not : isTender ws ≡ false → Previews ws awards told 100 awards told
+  previews-not h = told-not ws (previewed (rules.preview (tenderIn ws))) (100, awards, told) h
+
+  module _ (h : isTender ws ≡ true) (a : AllotAnswer) (cents : List ℕ) (r : ℕ) (awards₂ told₂ : List ℕ) (t : TellsAllotment (a .refusal) (allottedIn a cents) awards told r awards₂ told₂) where
+    pub allots-in : (after : List ℕ) → AllotsIn ws a after cents → Allots ws awards told r after awards₂ told₂
+    allots-in after i =
+        record {
+          equal = (λ j. (t j .0, i .numbers j, t j .1, t j .2)) ∙ ap allotted (i .equal) ∙ told-all ws (allotted (rules.allot (tenderIn ws))) (100, ws, awards, told) h;
+          tender = λ q. ap (λ (p : Option ℕ × rules.Tender × rules.Allotted). p .1) (i .equal);
+          given = λ q. i .given;
+        }
+
+    pub previews-in : PreviewsIn ws a cents → Previews ws awards told r awards₂ told₂
+    previews-in i = t ∙ ap previewed i ∙ told-all ws (previewed (rules.preview (tenderIn ws))) (100, awards, told) h

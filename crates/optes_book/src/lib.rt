@@ -1,6 +1,7 @@
 // The tender book for a host in C: the calls on a tender in words that the host lends. Each tests the words first of all, so that it asks nothing of
 // the host but what its pointers say.
 use buffer::state_of;
+use buffer_allotment::internal::preview_in;
 use buffer_opening::internal::open_in;
 use buffer_questions::internal::tell_codes;
 use buffer_questions::internal::tell_held;
@@ -15,6 +16,7 @@ use in_place::internal::revoke_in;
 use marginal::MarginalRate;
 use numbers::internal::put;
 use numbers::internal::put_first;
+use outcomes::internal::AllotAnswer;
 use refusals::State;
 use refusals::is_refused;
 use refusals::number_of;
@@ -30,7 +32,9 @@ ghost use Rattle.marginal.specs.Ranks.{rateIn};
 ghost use Rattle.numbers.specs.Numbers.{inArray};
 ghost use Rattle.refusals.specs.Conditions.{stateOf};
 ghost use Rattle.buffer.specs.Words.{tenderIn};
-ghost use Rattle.optes_book.specs.Interface.{stateNumber, answerNumbers, marginalNumbers, Opens, Receives, Changes, Allots, TellsState, TellsTerms, TellsCodes, TellsLimits, TellsHeld};
+ghost use Rattle.buffer_allotment.specs.Allotted.{allottedIn};
+ghost use Rattle.optes_book.specs.Interface.{stateNumber, answerNumbers, marginalNumbers, Opens, Receives, Changes, Allots, Previews, TellsState, TellsTerms, TellsCodes, TellsLimits, TellsHeld};
+ghost use Rattle.optes_book.specs.Parts.{TellsAllotment};
 
 // Opens a tender in the words.
 #[no_mangle]
@@ -131,6 +135,20 @@ fn tell_marginal(told: &mut [u64], marginal: MarginalRate)
     }
 }
 
+// Tells what an allotment came to, with its awards: the number of its refusal alone, or the awards and the marginal rate.
+fn tell_allotment(answer: AllotAnswer, cents: &[u64], awards: &mut [u64], told: &mut [u64]) -> u64
+    ensures { λ r. ⌜ TellsAllotment (answer .refusal) (allottedIn answer (now (cents .entry))) (now (awards .entry)) (now (told .entry)) r (now (awards .exit)) (now (told .exit)) ⌝ }
+{
+    let refusal = answer.refusal;
+    if is_refused(refusal) {
+        return number_of(refusal);
+    }
+    let marginal = answer.marginal;
+    put_first(awards, cents);
+    tell_marginal(told, marginal);
+    0
+}
+
 // Allots; tells the awards of 640 places and the marginal rate.
 #[no_mangle]
 pub extern "C" fn optes_words_allot(words: &mut [u64], awards: &mut [u64], told: &mut [u64]) -> u64
@@ -141,14 +159,20 @@ pub extern "C" fn optes_words_allot(words: &mut [u64], awards: &mut [u64], told:
     }
     let mut cents = [0u64; 640];
     let answer = allot_in(words, &mut cents);
-    let refusal = answer.refusal;
-    if is_refused(refusal) {
-        return number_of(refusal);
+    tell_allotment(answer, &cents, awards, told)
+}
+
+// Previews; tells the same as allotting.
+#[no_mangle]
+pub extern "C" fn optes_words_preview(words: &[u64], awards: &mut [u64], told: &mut [u64]) -> u64
+    ensures { λ r. ⌜ Previews (now (words .entry)) (now (awards .entry)) (now (told .entry)) r (now (awards .exit)) (now (told .exit)) ⌝ }
+{
+    if !is_tender(words) {
+        return 100;
     }
-    let marginal = answer.marginal;
-    put_first(awards, &cents);
-    tell_marginal(told, marginal);
-    0
+    let mut cents = [0u64; 640];
+    let answer = preview_in(words, &mut cents);
+    tell_allotment(answer, &cents, awards, told)
 }
 
 // Revokes the tender.

@@ -20,7 +20,6 @@ use refusals::Refusal;
 use refusals::State;
 use refusals::bids_refusal;
 use refusals::is_refused;
-use refusals::not_closed;
 use refusals::not_open;
 use terms::Terms;
 ghost use mathlib.Core.Path.{_≡_};
@@ -172,9 +171,10 @@ pub struct AllotAnswer {
     pub marginal: MarginalRate,
 }
 
-// Allots to the bids of a book, given in book order, with the limits of its codes, and writes their awards; refused, it writes nothing.
+// Allots to the bids of a book, given in book order, with the limits of its codes, and writes their awards, unless a call's first conditions or
+// condition 16 refuse; refused, it writes nothing.
 pub fn allot_bids(
-    state: State,
+    first: Refusal,
     terms: Terms,
     limits: &[u64],
     rates: &[u32],
@@ -183,9 +183,8 @@ pub fn allot_bids(
 ) -> AllotAnswer
     requires { ⌜ (length (now rates) ≡ length (now amounts)) × (length (now awards) ≡ length (now amounts)) × (length (now amounts) ≤ 640) ⌝ }
     requires { ⌜ 10 * length (now limits) ≡ length (now amounts) ⌝ }
-    ensures { λ r. ⌜ AllotsAny state terms (now (limits .entry)) (now (rates .entry)) (now (amounts .entry)) (now (awards .entry)) r (now (awards .exit)) ⌝ }
+    ensures { λ r. ⌜ AllotsAny first terms (now (limits .entry)) (now (rates .entry)) (now (amounts .entry)) (now (awards .entry)) r (now (awards .exit)) ⌝ }
 {
-    let first = not_closed(state);
     if is_refused(first) {
         return AllotAnswer {
             refusal: first,

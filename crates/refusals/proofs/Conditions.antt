@@ -7,9 +7,11 @@ use Prim.Native.Nat.{ℕ}
 use borrow.Author.Tests.{not-false}
 use Rattle.calendar.specs.Calendar.{validDate, validTime}
 use Rattle.envelope.specs.Refusals.{firstHolding, unlessRefused}
-use Rattle.rules.specs.Calls.{State, isRevoked, isOver, clockInvalid}
+use Rattle.rules.specs.Calls.{isRevoked, isOver, clockInvalid}
+use Rattle.rules.specs.Calls as rules
 use Rattle.rules.proofs.Opening.{next-condition}
-use Rattle.refusals.specs.Conditions.{isSome, notOpen}
+use Rattle.refusals.specs.declared.State.{State}
+use Rattle.refusals.specs.Conditions.{stateOf, isSome, notOpen}
 
 first-some : (xs ys : List (ℕ × Bool)) → isSome (firstHolding xs) ≡ true → firstHolding (xs ++ ys) ≡ firstHolding xs
 unfolding firstHolding
@@ -48,9 +50,13 @@ none-of none h = refl
 none-of (some n) h = absurd (false≢true (sym h))
 
 -- conditions 8, 9 and 10 do not hold: the clock reading is valid
-pub clock-valid : (s : State) (date time : ℕ) (l : Option ℕ) → l ≡ notOpen s date time → isSome l ≡ false → validDate date && validTime time ≡ true
+pub clock-valid : (s : rules.State) (date time : ℕ) (l : Option ℕ) → l ≡ notOpen s date time → isSome l ≡ false → validDate date && validTime time ≡ true
 unfolding clockInvalid
 clock-valid s date time l e h =
     let eight = next-condition 8 (isRevoked s) _ (sym e ∙ none-of l h) in
     let nine = next-condition 9 (isOver s) _ (eight .1) in
     not-false (validDate date && validTime time) (next-condition 10 (clockInvalid date time) _ (nine .1) .0)
+
+-- what a state decides, told by the state that was found
+pub in-state : (f : rules.State → Option ℕ) (s found : State) → s ≡ found → f (stateOf found) ≡ f (stateOf s)
+in-state f s found e = sym (ap (λ (x : State). f (stateOf x)) e)

@@ -48,14 +48,15 @@ notOpen s date time = firstHolding ((8, rules.isRevoked s) ∷ (9, rules.isOver 
 abbrev pub notClosed : rules.State → Option ℕ
 notClosed s = firstHolding ((8, rules.isRevoked s) ∷ (14, rules.isOpen s) ∷ (15, rules.isAnnounced s) ∷ [])
 
+-- conditions 8 and 15, which revoking asks, and a preview first
+abbrev pub ended : rules.State → Option ℕ
+ended s = firstHolding ((8, rules.isRevoked s) ∷ (15, rules.isAnnounced s) ∷ [])
+
 -- a tender in a state of the code
 abbrev pub tenderIn : opening.Terms → State → List Entry → rules.Tender
 tenderIn t s book = record { terms = t; state = stateOf s; book = book }
 
--- why closing is refused, whoever is admitted and whatever is held; and why revoking is, whatever the terms
+-- why closing is refused, whoever is admitted and whatever is held
 abbrev pub RefusesClosing : State → Terms → ℕ → ℕ → Refusal → Type 0
 RefusesClosing s t date time r =
     (a : Admission) (book : List Entry) → refusalNumber r ≡ rules.closingRefused (tenderIn (terms.viewed t a) s book) date time
-
-abbrev pub RefusesRevoking : State → Refusal → Type 0
-RefusesRevoking s r = (t : opening.Terms) (book : List Entry) → refusalNumber r ≡ rules.revokingRefused (tenderIn t s book)

@@ -7,7 +7,7 @@ ghost use mathlib.Core.Path.{_≡_};
 ghost use mathlib.Core.List.{[], _∷_};
 ghost use Rattle.envelope.specs.Refusals.{firstHolding, orZero};
 ghost use Rattle.rules.specs.Calls.{clockInvalid};
-ghost use Rattle.refusals.specs.Conditions.{stateOf, refusalNumber, isSome, notOpen, notClosed, RefusesClosing, RefusesRevoking};
+ghost use Rattle.refusals.specs.Conditions.{stateOf, refusalNumber, isSome, notOpen, notClosed, ended, RefusesClosing};
 
 pub enum State {
     Open,
@@ -89,6 +89,18 @@ pub fn not_closed(state: State) -> Refusal
     }
 }
 
+// Conditions 8 and 15.
+pub fn ended_refusal(state: State) -> Refusal
+    ensures { λ r. ⌜ refusalNumber r ≡ ended (stateOf state) ⌝ }
+{
+    match state {
+        State::Open => Refusal::None,
+        State::Closed => Refusal::None,
+        State::Announced => Refusal::Announced,
+        State::Revoked => Refusal::Revoked,
+    }
+}
+
 // Condition 16.
 pub fn bids_refusal(exceeds: bool) -> Refusal
     ensures { λ r. ⌜ refusalNumber r ≡ firstHolding ((16, exceeds) ∷ []) ⌝ }
@@ -111,16 +123,4 @@ pub fn close_refusal(state: State, terms: Terms, date: u64, time: u64) -> Refusa
         return Refusal::None;
     }
     Refusal::BeforeCutOff
-}
-
-// Why revoking is refused, or that it is not.
-pub fn revoke_refusal(state: State) -> Refusal
-    ensures { λ r. ⌜ RefusesRevoking state r ⌝ }
-{
-    match state {
-        State::Open => Refusal::None,
-        State::Closed => Refusal::None,
-        State::Announced => Refusal::Announced,
-        State::Revoked => Refusal::Revoked,
-    }
 }

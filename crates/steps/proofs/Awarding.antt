@@ -23,7 +23,7 @@ use Rattle.outcomes.specs.declared.internal.AllotAnswer.{AllotAnswer}
 use Rattle.buffer.specs.Words.{part, low32, bookIn, tenderIn, isTender}
 use Rattle.buffer.proofs.Words.{known, sized}
 use Rattle.in_place.specs.InPlace.{AllotsIn}
-use Rattle.in_place.proofs.Allotting.{bids-lent}
+use Rattle.buffer_allotment.proofs.Lent.{bids-lent}
 use Rattle.award_lines.proofs.Places.{length-in-book}
 use Rattle.log.specs.Lines.{refusedLine, awardLine, placeLines, awardLines}
 use Rattle.log.specs.Steps.{awardsLine, allotted}

@@ -3,3 +3,4 @@ pub mod Answering
 pub mod Opening
 pub mod ArrivalOrder
 pub mod Allotting
+pub mod Previews

@@ -37,3 +37,9 @@ pub record Allots (t : Tender) (r : Allotted) : Type 0 where
   pub equal : (refusalNumber (r .refusal), viewed (r .tender), allottedIn r) ≡ rules.allot (viewed t)
   pub unchanged : r .tender ≡ unlessRefused (refusalNumber (r .refusal)) t (r .tender)
   pub given : Given (r .tender)
+
+-- a preview gives back the very tender that came in
+pub record Previews (t : Tender) (r : Allotted) : Type 0 where
+  pub equal : (refusalNumber (r .refusal), viewed (r .tender), allottedIn r) ≡ rules.preview (viewed t)
+  pub unchanged : r .tender ≡ t
+  pub given : Given (r .tender)

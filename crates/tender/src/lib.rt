@@ -1,18 +1,14 @@
 // The calls on a tender: each takes it by value and gives back the next one with the answer.
 use addresses::code_of;
 use book::Book;
-use book::amounts_of;
-use book::cents_of;
 use book::internal::find_in;
 use book::internal::takes_at;
 use book::new_book;
-use book::numbers_of;
-use book::up_to_64;
+use book_allotment::internal::allot_book;
 use errors::Errors;
 use errors::none;
 use marginal::MarginalRate;
 use outcomes::internal::Outcome;
-use outcomes::internal::allot_bids;
 use outcomes::internal::held_in;
 use outcomes::internal::judged;
 use outcomes::internal::receiving_checks;
@@ -22,9 +18,10 @@ use reception::internal::put_reply;
 pub use refusals::Refusal;
 pub use refusals::State;
 use refusals::close_refusal;
+use refusals::ended_refusal;
 pub use refusals::is_refused;
+use refusals::not_closed;
 pub use refusals::number_of;
-use refusals::revoke_refusal;
 use terms::OpenAnswer;
 use terms::Terms;
 use terms::is_opened;
@@ -37,7 +34,7 @@ ghost use Rattle.checks.specs.Columns.{receptionOf};
 ghost use Rattle.refusals.specs.Conditions.{stateOf, refusalNumber};
 ghost use Rattle.outcomes.specs.Outcomes.{ComesTo};
 ghost use Rattle.tender.specs.Viewed.{viewed, Given, inStateOf};
-ghost use Rattle.tender.specs.Calls.{Opens, Receives, Changes, Allots};
+ghost use Rattle.tender.specs.Calls.{Opens, Receives, Changes, Allots, Previews};
 ghost use Rattle.tender.specs.Parts.{changedUnless};
 
 // What was announced and for whom, what is held for each admitted code, and where the tender stands.
@@ -67,7 +64,7 @@ pub struct Changed {
     pub tender: Tender,
 }
 
-// The awards of all places in book order and the marginal rate: zeros and none where allotting is refused.
+// What allotting and a preview give: the awards of all places in book order and the marginal rate, zeros and none where the call is refused.
 pub struct Allotted {
     pub refusal: Refusal,
     pub tender: Tender,
@@ -236,29 +233,35 @@ impl Tender {
         let state = self.state;
         let terms = self.terms;
         let book = self.book;
-        let limits = book.limits;
-        let held_rates = book.rates;
-        let held_amounts = book.amounts;
-        let rates = numbers_of(held_rates);
-        let amounts = cents_of(held_amounts);
-        let n = up_to_64(book.n);
-        let end = 10 * n;
-        let mut cents = [0u64; 640];
-        let answer = allot_bids(
-            state,
-            terms,
-            &limits[0..n],
-            &rates[0..end],
-            &amounts[0..end],
-            &mut cents[0..end],
-        );
-        let refusal = answer.refusal;
-        let marginal = answer.marginal;
+        let allotted = allot_book(not_closed(state), terms, book);
+        let refusal = allotted.refusal;
+        let awards = allotted.awards;
+        let marginal = allotted.marginal;
         let tender = in_state_unless(self, refusal, State::Announced).tender;
         Allotted {
             refusal,
             tender,
-            awards: amounts_of(cents),
+            awards,
+            marginal,
+        }
+    }
+
+    // What closing and allotting would give, or allotting where the tender is closed already. It needs no clock, and the tender stays as it is.
+    pub fn preview(self) -> Allotted
+        requires { ⌜ Given self ⌝ }
+        ensures { λ r. ⌜ Previews self r ⌝ }
+    {
+        let state = self.state;
+        let terms = self.terms;
+        let book = self.book;
+        let previewed = allot_book(ended_refusal(state), terms, book);
+        let refusal = previewed.refusal;
+        let awards = previewed.awards;
+        let marginal = previewed.marginal;
+        Allotted {
+            refusal,
+            tender: self,
+            awards,
             marginal,
         }
     }
@@ -269,7 +272,7 @@ impl Tender {
         ensures { λ r. ⌜ Changes self (revoke (viewed self)) r ⌝ }
     {
         let state = self.state;
-        let refusal = revoke_refusal(state);
+        let refusal = ended_refusal(state);
         in_state_unless(self, refusal, State::Revoked)
     }
 }

@@ -1,9 +1,9 @@
-// Bids that no receptions lead to: they are allotted for a closed tender in its parts.
+// Bids that no receptions lead to: they are allotted for a tender in its parts, as for a closed one and for a preview.
 use crate::lines;
 use crate::messages::announcement;
 use crate::steps;
 use outcomes::internal::allot_bids;
-use tender::State;
+use tender::Refusal;
 
 // Allots two bids of a code with a limit under document 01's terms, and prints their awards.
 fn allot(name: &[u8], limit: u64, first: u64, second: u64) {
@@ -12,7 +12,7 @@ fn allot(name: &[u8], limit: u64, first: u64, second: u64) {
     let rates = [150000u32, 140000, 0, 0, 0, 0, 0, 0, 0, 0];
     let amounts = [first, second, 0, 0, 0, 0, 0, 0, 0, 0];
     let mut awards = [0u64; 10];
-    let answer = allot_bids(State::Closed, terms, &limits, &rates, &amounts, &mut awards);
+    let answer = allot_bids(Refusal::None, terms, &limits, &rates, &amounts, &mut awards);
     let refusal = answer.refusal;
     let marginal = answer.marginal;
     printing::text(name);

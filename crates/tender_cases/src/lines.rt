@@ -54,7 +54,7 @@ fn accepted(n: u64) {
     }
 }
 
-// The answer to closing, revoking or allotting.
+// The answer to closing, revoking, allotting or a preview.
 pub fn changed(r: Refusal) {
     accepted(number_of(r));
 }

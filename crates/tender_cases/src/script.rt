@@ -73,6 +73,9 @@ fn call(t: Tender, line: &[u8]) -> Tender
     if kind == b'A' {
         return steps::allot(name, t);
     }
+    if kind == b'P' {
+        return steps::preview(name, t);
+    }
     if kind == b'V' {
         return steps::revoke(name, t);
     }

@@ -1,6 +1,8 @@
 // Each call on a tender: its name, its answer and the tender after it are printed as one line.
 use crate::lines;
 use crate::spaces;
+use book::Book;
+use tender::Allotted;
 use tender::Tender;
 ghost use Rattle.tender.specs.Viewed.{Given};
 
@@ -79,19 +81,34 @@ pub fn revoke(name: &[u8], t: Tender) -> Tender
     r.tender
 }
 
-// Allots a tender, and prints the awards and the marginal rate too.
-pub fn allot(name: &[u8], t: Tender) -> Tender
-    requires { ⌜ Given t ⌝ }
-    ensures { λ r. ⌜ Given r ⌝ }
-{
-    let r = t.allot();
+// Prints what an allotment or a preview gave, with the awards to the bids of a book and the marginal rate.
+fn awarded(name: &[u8], b: Book, r: Allotted) {
     let refusal = r.refusal;
     let awards = r.awards;
     let marginal = r.marginal;
     printing::text(name);
     lines::changed(refusal);
-    lines::awards(t.book(), awards);
+    lines::awards(b, awards);
     lines::marginal(marginal);
     lines::state_after(r.tender);
+}
+
+// Allots a tender.
+pub fn allot(name: &[u8], t: Tender) -> Tender
+    requires { ⌜ Given t ⌝ }
+    ensures { λ r. ⌜ Given r ⌝ }
+{
+    let r = t.allot();
+    awarded(name, t.book(), r);
+    r.tender
+}
+
+// Previews a tender.
+pub fn preview(name: &[u8], t: Tender) -> Tender
+    requires { ⌜ Given t ⌝ }
+    ensures { λ r. ⌜ Given r ⌝ }
+{
+    let r = t.preview();
+    awarded(name, t.book(), r);
     r.tender
 }

@@ -1,11 +1,12 @@
 -- `refusals::not_open` meets its contract. Assumes nothing.
 use borrow.Author.Needs.{needs}
-use mathlib.Core.Path.{_≡_, sym, ap, _∙_}
+use mathlib.Core.Path.{_≡_, _∙_}
 use Rattle.envelope.specs.Refusals.{firstHolding}
 use Rattle.rules.specs.Calls.{isRevoked, isOver}
 use Rattle.refusals.specs.declared.State.{State}
 use Rattle.refusals.specs.declared.State.the-variants as state
 use Rattle.refusals.specs.Conditions.{stateOf, notOpen}
+use Rattle.refusals.proofs.Conditions.{in-state}
 use Rattle.refusals.proofs.not_open.Statement.{statement}
 use Rattle.refusals.proofs.not_open.Tie as tie
 
@@ -25,8 +26,8 @@ enum-told-4 : tie.Need-enum-told-4
 enum-told-4 c = search needs
 
 -- the number in a state
-number-in : (c : tie.Start) (s : State) → c .args .state ≡ s → notOpen (stateOf s) (c .args .date) (c .args .time) ≡ notOpen (stateOf (c .args .state)) (c .args .date) (c .args .time)
-number-in c s e = sym (ap (λ (x : State). notOpen (stateOf x) (c .args .date) (c .args .time)) e)
+number-in : (c : tie.Start) (found : State) → c .args .state ≡ found → notOpen (stateOf found) (c .args .date) (c .args .time) ≡ notOpen (stateOf (c .args .state)) (c .args .date) (c .args .time)
+number-in c = in-state (λ s. notOpen s (c .args .date) (c .args .time)) (c .args .state)
 
 returns : tie.Need-returns
 unfolding firstHolding isRevoked isOver

@@ -6,12 +6,10 @@ use native.Mathlib.Omega.{arith}
 use denote.Ref.{now}
 use lib.ListN.{length}
 use Rattle.rules.specs.Calls.{revokingRefused, revoke}
-use Rattle.book.specs.Viewed as book
-use Rattle.terms.specs.Viewed as terms
 use Rattle.refusals.specs.declared.State.{State}
-use Rattle.refusals.specs.Conditions.{refusalNumber, tenderIn}
+use Rattle.refusals.specs.Conditions.{stateOf, refusalNumber, ended}
 use Rattle.refusals.proofs.Conditions.{none-of}
-use Rattle.buffer.specs.Words.{tenderWords, stateIn, termsIn, bookIn}
+use Rattle.buffer.specs.Words.{tenderWords, stateIn}
 use Rattle.buffer.specs.Words as buffer
 use Rattle.buffer.proofs.Words.{known}
 use Rattle.in_place.proofs.Changing.{changes-refused, changes-state}
@@ -27,19 +25,16 @@ slice-read-state-of c = let h = long (c .before .before) in omega (arith, h)
 state-of-requires : tie.Need-state-of-requires
 state-of-requires c κs = search needs
 
-revoke-refusal-requires : tie.Need-revoke-refusal-requires
-revoke-refusal-requires c κs = search needs
+ended-refusal-requires : tie.Need-ended-refusal-requires
+ended-refusal-requires c κs = search needs
 
 is-refused-requires : tie.Need-is-refused-requires
 is-refused-requires c κs = search needs
 
 -- the refusal is that of the tender of the words
-number : (c : tie.After-revoke-refusal) → refusalNumber (c .revoke-refusal .result) ≡ revokingRefused (buffer.tenderIn (now (c .before .before .before .before .args .words)))
-number c =
-    let ws = now (c .before .before .before .before .args .words) in
-    let t = terms.viewed (termsIn ws) (book.admissionOf (bookIn ws)) in
-    let es = book.viewed (bookIn ws) in
-    c .revoke-refusal .ensures t es ∙ ap (λ (s : State). revokingRefused (tenderIn t s es)) (c .before .state-of .ensures)
+number : (c : tie.After-ended-refusal) → refusalNumber (c .ended-refusal .result) ≡ revokingRefused (buffer.tenderIn (now (c .before .before .before .before .args .words)))
+unfolding revokingRefused
+number c = c .ended-refusal .ensures ∙ ap (λ (s : State). ended (stateOf s)) (c .before .state-of .ensures)
 
 returns : tie.Need-returns
 unfolding revoke stateIn
@@ -47,7 +42,7 @@ returns c =
     let r = c .before .before in
     let start = r .before .before .before .before in
     let ws = now (start .args .words) in
-    changes-refused ws (start .pre) 3 (r .revoke-refusal .result) (revokingRefused (buffer.tenderIn ws)) (number r) (sym (c .before .is-refused .ensures) ∙ c .if1 .taken)
+    changes-refused ws (start .pre) 3 (r .ended-refusal .result) (revokingRefused (buffer.tenderIn ws)) (number r) (sym (c .before .is-refused .ensures) ∙ c .if1 .taken)
 
 slice-write-words : tie.Need-slice-write-words
 slice-write-words c = let h = long (c .before .before .before .before .before .before) in omega (arith, h)
@@ -61,7 +56,7 @@ returns-2 c =
     let r = c .before .before in
     let start = r .before .before .before .before in
     let ws = now (start .args .words) in
-    changes-state ws (start .pre) 3 (r .revoke-refusal .result) (revokingRefused (buffer.tenderIn ws)) (number r) (none-of _ (sym (c .before .is-refused .ensures) ∙ c .if1 .left)) (omega arith)
+    changes-state ws (start .pre) 3 (r .ended-refusal .result) (revokingRefused (buffer.tenderIn ws)) (number r) (none-of _ (sym (c .before .is-refused .ensures) ∙ c .if1 .left)) (omega arith)
 
 pub revoke-in-spec : {M : Type 1} → statement M
 revoke-in-spec =
@@ -69,7 +64,7 @@ revoke-in-spec =
     (tie.spec
     slice-read-state-of
     state-of-requires
-    revoke-refusal-requires
+    ended-refusal-requires
     is-refused-requires
     returns
     slice-write-words

@@ -11,6 +11,9 @@ slice-aggregate-is-tender c = search needs
 is-tender-requires : tie.Need-is-tender-requires
 is-tender-requires c κs = search needs
 
+no-tender-requires : tie.Need-no-tender-requires
+no-tender-requires c κs = search needs
+
 returns : tie.Need-returns
 returns c = search needs
 
@@ -23,8 +26,8 @@ slice-aggregate-allot-in-2 c = search needs
 allot-in-requires : tie.Need-allot-in-requires
 allot-in-requires c κs = (sym (c .before .before .before .is-tender .ensures) ∙ not-false _ (c .before .before .if1 .left), refl)
 
-number-of-requires : tie.Need-number-of-requires
-number-of-requires c κs = search needs
+given-by-requires : tie.Need-given-by-requires
+given-by-requires c κs = search needs
 
 returns-2 : tie.Need-returns-2
 returns-2 c = search needs
@@ -35,9 +38,10 @@ allot-spec =
     (tie.spec
     slice-aggregate-is-tender
     is-tender-requires
+    no-tender-requires
     returns
     slice-aggregate-allot-in
     slice-aggregate-allot-in-2
     allot-in-requires
-    number-of-requires
+    given-by-requires
     returns-2)

@@ -3,24 +3,20 @@ use mathlib.Core.Path.{refl, sym, _∙_}
 use denote.Ref.{now}
 use Rattle.bids.specs.Columns.{bidsOf}
 use Rattle.refusals.specs.Conditions.{refusalNumber}
+use Rattle.refusals.proofs.Conditions.{none-of}
 use Rattle.outcomes.specs.Outcomes.{viewedOf}
 use Rattle.outcomes.proofs.Allotting.{allots-not, allots-bids}
 use borrow.Author.Needs.{needs}
 use Rattle.outcomes.proofs.internal.allot_bids.Statement.{statement}
 use Rattle.outcomes.proofs.internal.allot_bids.Tie as tie
 
-not-closed-requires : tie.Need-not-closed-requires
-not-closed-requires c κs = search needs
-
 is-refused-requires : tie.Need-is-refused-requires
 is-refused-requires c κs = search needs
 
 returns : tie.Need-returns
-returns c book all capped =
-    let n = c .before .before .not-closed in
-    let a = c .before .before .before .before .before .before .before .args in
-    let t = viewedOf (a .state) (a .terms) book in
-    allots-not t (now (a .awards)) _ (n .ensures) (sym (c .before .is-refused .ensures) ∙ c .if1 .taken) refl
+returns c state book all capped =
+    let a = c .before .before .before .before .before .before .args in
+    allots-not (viewedOf state (a .terms) book) (now (a .awards)) _ (refusalNumber (a .first)) refl (sym (c .before .is-refused .ensures) ∙ c .if1 .taken) refl
 
 allot-requires : tie.Need-allot-requires
 allot-requires c κs = search needs
@@ -32,23 +28,13 @@ same-length : tie.Need-same-length
 same-length c = search needs
 
 returns-2 : tie.Need-returns-2
-returns-2 c book all capped =
+returns-2 c state book all capped =
     let allotted = c .before .before .before .allot in
-    let first = c .before .before .before .before .before .before .before .before .before in
     let refused = c .before .before .before .before .before .before .before .before in
-    let a = c .before .before .before .before .before .before .before .before .before .before .before .before .before .before .args in
-    let t = viewedOf (a .state) (a .terms) book in
-    allots-bids t (now (a .awards)) _ (refusalNumber (first .not-closed .result)) (now (a .limits)) (bidsOf (now (a .rates)) (now (a .amounts))) (allotted .result .exceeds) (allotted .last .1 .1 .1 .1 .0) all capped (first .not-closed .ensures)
-    (sym (refused .is-refused .ensures) ∙ c .before .before .before .before .before .before .before .if1 .left) (c .bids-refusal .ensures) (allotted .ensures)
+    let a = c .before .before .before .before .before .before .before .before .before .before .before .before .before .args in
+    let t = viewedOf state (a .terms) book in
+    allots-bids t (now (a .awards)) _ (refusalNumber (a .first)) (now (a .limits)) (bidsOf (now (a .rates)) (now (a .amounts))) (allotted .result .exceeds) (allotted .last .1 .1 .1 .1 .0) all capped
+    (none-of _ (sym (refused .is-refused .ensures) ∙ c .before .before .before .before .before .before .before .if1 .left)) (c .bids-refusal .ensures) (allotted .ensures)
 
 pub allot-bids-spec : {M : Type 1} → statement M
-allot-bids-spec =
-    tie.close
-    (tie.spec
-    not-closed-requires
-    is-refused-requires
-    returns
-    allot-requires
-    bids-refusal-requires
-    same-length
-    returns-2)
+allot-bids-spec = tie.close (tie.spec is-refused-requires returns allot-requires bids-refusal-requires same-length returns-2)

@@ -1,4 +1,4 @@
--- `in_place::internal::rates_in` meets its contract. The loop's invariant: the first i rates are written. Assumes nothing.
+-- `buffer_allotment::internal::rates_in` meets its contract. The loop's invariant: the first i rates are written. Assumes nothing.
 use mathlib.Core.Path.{_≡_, refl, sym, ap, subst, _∙_}
 use mathlib.Core.List.{_++_, map}
 use Prim.Native.Nat.{ℕ, _+_, _-_, _≤_}
@@ -9,8 +9,8 @@ use lib.Seq.{take-at, length-take-le}
 use Rattle.book.proofs.Mapped.{MappedTo, mapped-more}
 use Rattle.buffer.specs.Words.{tenderWords, part, low32}
 use Rattle.buffer.proofs.Parts.{part-length, word-at}
-use Rattle.in_place.proofs.internal.rates_in.Statement.{statement}
-use Rattle.in_place.proofs.internal.rates_in.Tie as tie
+use Rattle.buffer_allotment.proofs.internal.rates_in.Statement.{statement}
+use Rattle.buffer_allotment.proofs.internal.rates_in.Tie as tie
 
 abbrev Inv-loop : tie.InvT-loop
 Inv-loop words end rates₀ i₀ rates i = (i ≤ end) × ((tenderWords ≤ length words) × (end ≤ 640)) × MappedTo low32 (part 216 640 words) rates₀ rates i

@@ -1,25 +1,17 @@
--- The bids and limits that the words lend, and what allotting them gives. Assumes nothing.
+-- The bids and limits that the words lend are those of the book. Assumes nothing.
 use mathlib.Core.Path.{_≡_, refl, sym, ap, ap₂, _∙_}
-use mathlib.Core.List.{List, [], _∷_, _++_, map}
-use mathlib.Core.Option.{Option}
+use mathlib.Core.List.{List, [], _∷_, map}
 use Prim.Native.Nat.{ℕ, _+_, _*_, _-_, _≤_}
 use native.Mathlib.Nat.{sub-zero}
 use native.Mathlib.Omega.{arith}
-use lib.ListN.{length, take, drop, getD, replicate}
+use lib.ListN.{length, take, drop, getD}
 use lib.Seq.{take-take}
-use Rattle.rules.specs.Calls as rules
 use Rattle.rules.specs.Calls.{bidsInBook}
 use Rattle.bids.specs.Columns.{bidsOf, cents}
 use Rattle.book.specs.Viewed.{hundredThousandths, amountOf, upTo64, viewed, limitsIn}
 use Rattle.book.proofs.Order.{bids-numbered, there-and-back}
-use Rattle.refusals.specs.Conditions.{refusalNumber}
-use Rattle.outcomes.specs.declared.internal.AllotAnswer.{AllotAnswer}
-use Rattle.outcomes.specs.Allotting.{AllotsBids}
-use Rattle.outcomes.proofs.Awarding.{allots-whole}
-use Rattle.buffer.specs.Words.{tenderWords, part, low32, storedRate, stateIn, bookIn, tenderIn}
+use Rattle.buffer.specs.Words.{tenderWords, part, low32, storedRate, bookIn}
 use Rattle.buffer.proofs.Words.{sized}
-use Rattle.in_place.specs.InPlace.{ChangesIn, AllotsIn}
-use Rattle.in_place.proofs.Changing.{changed}
 
 -- the first n words of a part that are lent
 pub part-lent : (ws : List ℕ) (at k n : ℕ) → n ≤ k → take (at + n - at) (drop at ws) ≡ take n (part at k ws)
@@ -49,16 +41,3 @@ bids-lent ws n rates long e few is =
 pub limits-lent : (ws : List ℕ) (n : ℕ) → n ≡ upTo64 (getD ws 2 0) → n ≤ 64 → take (1496 + n - 1496) (drop 1496 ws) ≡ limitsIn (bookIn ws)
 unfolding bookIn
 limits-lent ws n e few = part-lent ws 1496 64 n few ∙ ap (λ (k : ℕ). take k (part 1496 64 ws)) e
-
--- the tender changes as in closing and revoking, and the awards stand beside it
-pub allots-in : (ws after : List ℕ) (r : AllotAnswer) (n : ℕ) (awarded : List ℕ) → 10 * n ≤ 640 → length awarded ≡ 10 * n
-    → AllotsBids (tenderIn ws) (take (10 * n - 0) (replicate 640 0)) r awarded
-    → ChangesIn ws (changed ws 2 (refusalNumber (r .refusal))) 2 (r .refusal) after
-    → AllotsIn ws r after (awarded ++ drop (10 * n - 0) (replicate 640 0))
-unfolding stateIn
-allots-in ws after r n awarded few long bids change =
-    record {
-      equal = allots-whole (tenderIn ws) r (10 * n) awarded few long bids (tenderIn after) (ap (λ (p : Option ℕ × rules.Tender). p .1) (change .equal));
-      numbers = change .numbers;
-      given = change .given;
-    }

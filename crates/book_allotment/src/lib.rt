@@ -1,0 +1,2 @@
+// The bids of a book by value, allotted.
+pub mod internal;

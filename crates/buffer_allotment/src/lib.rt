@@ -1,0 +1,2 @@
+// The bids of a tender in a buffer of words, allotted, and its preview. No word changes.
+pub mod internal;
