@@ -1,4 +1,4 @@
-// An OPTES tender in C and C++: opened by a 6G0, filled by 6G1s, closed, allotted or revoked.
+// An OPTES tender in C and C++: opened by a 6G0, filled by 6G1s, closed, allotted or revoked, and previewed.
 //
 // Tender: it stands in a struct optes_book, which the host lends and never looks into. It may be copied by
 // assignment and saved as it is; there is nothing to release. Calls that do not open a tender take it as
@@ -70,6 +70,8 @@ uint64_t optes_words_receive(uint64_t *words, size_t count, const uint8_t *m, si
     uint64_t time, uint8_t *space, size_t room, uint64_t *told, size_t numbers);
 uint64_t optes_words_close(uint64_t *words, size_t count, uint64_t date, uint64_t time);
 uint64_t optes_words_allot(uint64_t *words, size_t count, uint64_t *awards, size_t places, uint64_t *told,
+    size_t numbers);
+uint64_t optes_words_preview(const uint64_t *words, size_t count, uint64_t *awards, size_t places, uint64_t *told,
     size_t numbers);
 uint64_t optes_words_revoke(uint64_t *words, size_t count);
 uint64_t optes_words_state(const uint64_t *words, size_t count);
@@ -178,6 +180,14 @@ static inline uint64_t optes_book_close(struct optes_book *b, uint64_t date, uin
 static inline uint64_t optes_book_allot(struct optes_book *b, struct optes_allotment *a)
 {
     return optes_words_allot(b->words, OPTES_BOOK_WORDS, a->awards, OPTES_BOOK_PLACES, (uint64_t *)a,
+        OPTES_BOOK_MARGINAL_NUMBERS);
+}
+
+// Tells what optes_book_allot would give: on an open tender if it were closed now, on a closed one as it is. It needs
+// no clock, and the tender stays as it is. Refused with 8, 15 and 16, or OPTES_NO_TENDER.
+static inline uint64_t optes_book_preview(const struct optes_book *b, struct optes_allotment *a)
+{
+    return optes_words_preview(b->words, OPTES_BOOK_WORDS, a->awards, OPTES_BOOK_PLACES, (uint64_t *)a,
         OPTES_BOOK_MARGINAL_NUMBERS);
 }
 
