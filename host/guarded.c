@@ -73,23 +73,44 @@ uint8_t *guarded_copy(const struct guarded *g, const void *from, size_t n)
     return to;
 }
 
+void guarded_read_only(const struct guarded *g)
+{
+    CHECK(mprotect(g->pages, g->size, PROT_READ) == 0);
+}
+
+void guarded_writable(const struct guarded *g)
+{
+    CHECK(mprotect(g->pages, g->size, PROT_READ | PROT_WRITE) == 0);
+}
+
 static void stopped(int signal_number)
 {
     (void)signal_number;
     _exit(STOPPED);
 }
 
-int guarded_stops(const struct guarded *g)
+// 1 where a program that writes this byte is stopped, else 0.
+static int write_stops(volatile uint8_t *byte)
 {
-    volatile uint8_t *bytes = guarded_bytes(g, 1);
     pid_t child = fork();
     CHECK(child >= 0);
     if (child == 0) {
         signal(SIGSEGV, stopped);
-        bytes[g->guard == GUARD_AFTER ? 1 : -1] = 0;
+        *byte = 0;
         _exit(0);
     }
     int status = 0;
     CHECK(waitpid(child, &status, 0) == child);
     return WIFEXITED(status) && WEXITSTATUS(status) == STOPPED;
+}
+
+int guarded_stops(const struct guarded *g)
+{
+    uint8_t *bytes = guarded_bytes(g, 1);
+    return write_stops(g->guard == GUARD_AFTER ? bytes + 1 : bytes - 1);
+}
+
+int guarded_stops_writing(const struct guarded *g)
+{
+    return write_stops(g->pages) && write_stops(g->pages + g->size - 1);
 }

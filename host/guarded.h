@@ -41,7 +41,14 @@ uint8_t *guarded_bytes(const struct guarded *g, size_t n);
 // A copy of n bytes against the guard.
 uint8_t *guarded_copy(const struct guarded *g, const void *from, size_t n);
 
+// From the first call to the second the pages may be read but not written.
+void guarded_read_only(const struct guarded *g);
+void guarded_writable(const struct guarded *g);
+
 // 1 where a program that touches the byte beyond the buffer is stopped, else 0.
 int guarded_stops(const struct guarded *g);
+
+// 1 where a program that writes the first byte of the pages is stopped, and one that writes the last, else 0.
+int guarded_stops_writing(const struct guarded *g);
 
 #endif

@@ -59,12 +59,16 @@ static void cases(enum guard guard)
     CHECK(guarded_stops(&d.words) && guarded_stops(&d.space) && guarded_stops(&d.told));
     CHECK(guarded_stops(&d.awards) && guarded_stops(&d.message) && guarded_stops(&d.codes));
     CHECK(guarded_stops(&d.limits));
+    guarded_read_only(&d.words);
+    CHECK(guarded_stops_writing(&d.words));
+    guarded_writable(&d.words);
     opening_cases(&d);
     receiving_cases(&d);
     error_cases(&d);
     branch_cases(&d);
     limit_cases(&d);
     ending_cases(&d);
+    preview_cases(&d);
     telling_cases(&d);
     saving_cases(&d);
     struct_cases(&d);

@@ -1,4 +1,4 @@
-// A host in C++: a tender opened, filled, copied, closed and allotted, with both headers in one file.
+// A host in C++: a tender opened, filled, copied, previewed, closed and allotted, with both headers in one file.
 #include "optes.h"
 #include "optes_book.h"
 
@@ -85,13 +85,25 @@ bool fill(optes_book &book)
         && answered(book, application(90002, 102000, 150000, 60000), 378, 1);
 }
 
-// Whether the tender closes and gives these awards at a marginal rate of 1.2 %.
-bool ends(optes_book &book, uint64_t first, uint64_t second, uint64_t third)
+// Whether a preview gives the awards and the marginal rate of this allotment.
+bool previews(const optes_book &book, const optes_allotment &given)
 {
     optes_allotment a{};
-    return optes_book_close(&book, 12032012, 110001) == OPTES_OK && optes_book_allot(&book, &a) == OPTES_OK
+    return optes_book_preview(&book, &a) == OPTES_OK && std::memcmp(&a, &given, sizeof a) == 0;
+}
+
+// Whether the tender closes and gives these awards at a marginal rate of 1.2 %, and previews gave them before.
+bool ends(optes_book &book, uint64_t first, uint64_t second, uint64_t third)
+{
+    const optes_book open = book;
+    optes_allotment a{};
+    if (optes_book_close(&book, 12032012, 110001) != OPTES_OK)
+        return false;
+    const optes_book closed = book;
+    return optes_book_allot(&book, &a) == OPTES_OK && previews(open, a) && previews(closed, a)
         && a.has_marginal == 1 && a.marginal == 120000 && a.awards[0] == first && a.awards[10] == second
-        && a.awards[20] == third && optes_book_state(&book) == OPTES_STATE_ANNOUNCED;
+        && a.awards[20] == third && optes_book_state(&book) == OPTES_STATE_ANNOUNCED
+        && optes_book_preview(&book, &a) == OPTES_ALREADY_ANNOUNCED && a.awards[0] == first;
 }
 
 // A copy takes a cancellation of 90002, and the first tender does not see it.

@@ -10,6 +10,7 @@ void error_cases(const struct desk *d);
 void branch_cases(const struct desk *d);
 void limit_cases(const struct desk *d);
 void ending_cases(const struct desk *d);
+void preview_cases(const struct desk *d);
 void telling_cases(const struct desk *d);
 void saving_cases(const struct desk *d);
 void struct_cases(const struct desk *d);

@@ -1,6 +1,7 @@
 // Words that no call left: each call but opening refuses them with 100 and leaves all that it was lent. This
 // file alone relies on where the archive keeps things: word 0 is the form number, word 1 the state, word 2
-// how many codes there are, words 24 to 87 are the codes and words 1496 to 1559 their credit limits.
+// how many codes there are, words 15 and 16 are the day of execution and the cut-off, words 24 to 87 the codes,
+// words 216 to 855 their rates, words 856 to 1495 their amounts and words 1496 to 1559 their credit limits.
 #include <string.h>
 
 #include "cases.h"
@@ -10,10 +11,11 @@
 #define FORM 0
 #define STATE 1
 #define COUNT 2
+#define EXECUTION 15
+#define CUT_OFF 16
 #define FIRST_CODE 24
-
-// Where the bids stand: rates and amounts fill the words from here up to the limits.
-#define FIRST_BID 216
+#define FIRST_RATE 216
+#define FIRST_AMOUNT 856
 #define FIRST_LIMIT 1496
 
 // The numbers of this form of words and of the one before it, which had no limits.
@@ -32,7 +34,8 @@ static void no_tender(const struct desk *d, const struct optes_book *damaged)
     CHECK(call_receive(d, &b, m, sizeof m, in_time) == 100);
     CHECK(call_receive(&less, &b, m, 0, none) == 100);
     CHECK(call_close(d, &b, past_cut_off) == 100 && call_close(d, &b, none) == 100);
-    CHECK(call_allot(d, &b) == 100 && call_revoke(d, &b) == 100 && call_state(d, &b) == 100);
+    CHECK(call_allot(d, &b) == 100 && call_preview(d, &b) == 100 && call_revoke(d, &b) == 100);
+    CHECK(call_state(d, &b) == 100);
     CHECK(call_terms(d, &b) == 100 && call_codes(d, &b) == 100 && call_limits(d, &b) == 100);
     CHECK(call_held(d, &b, 90001) == 100 && call_held(d, &b, UINT64_MAX) == 100);
     CHECK(memcmp(&b, damaged, sizeof b) == 0);
@@ -101,23 +104,64 @@ static void order_of_codes(const struct desk *d)
     }
 }
 
+// An allotment is refused with this number, and so is a preview.
+static void awards_refused(const struct desk *d, struct optes_book *b, uint64_t refusal)
+{
+    CHECK(call_allot(d, b) == refusal && call_preview(d, b) == refusal);
+}
+
 // Bids of more than 999,999,999,999,999,999 eurocents, which no receptions bring about: 16, but 8, 14 and 15
-// come before it. Limits that would cut the bids to less do not matter.
+// come before it, and a preview is not refused with 14. Limits that would cut the bids to less do not matter.
 static void bids_exceed(const struct desk *d)
 {
     struct optes_book b = many_codes(d);
-    for (size_t at = FIRST_BID; at < FIRST_LIMIT; at++)
+    for (size_t at = FIRST_RATE; at < FIRST_LIMIT; at++)
         b.words[at] = UINT64_C(10000000000000000);
-    CHECK(call_allot(d, &b) == 14);
+    CHECK(call_allot(d, &b) == 14 && call_preview(d, &b) == 16);
     CHECK(call_close(d, &b, past_cut_off) == 0);
-    CHECK(call_allot(d, &b) == 16 && call_state(d, &b) == 1);
+    awards_refused(d, &b, 16);
+    CHECK(call_state(d, &b) == 1);
     for (size_t at = FIRST_LIMIT; at < OPTES_BOOK_WORDS; at++)
         b.words[at] = 1;
-    CHECK(call_allot(d, &b) == 16 && call_state(d, &b) == 1);
+    awards_refused(d, &b, 16);
+    CHECK(call_state(d, &b) == 1);
+    b.words[STATE] = 0;
+    CHECK(call_allot(d, &b) == 14 && call_preview(d, &b) == 16);
     b.words[STATE] = 2;
-    CHECK(call_allot(d, &b) == 15);
+    awards_refused(d, &b, 15);
     b.words[STATE] = 3;
-    CHECK(call_allot(d, &b) == 8);
+    awards_refused(d, &b, 8);
+}
+
+// As many eurocents as the bids may come to are previewed and allotted. One more, at a rate that is out, is not.
+static void bids_at_most(const struct desk *d)
+{
+    const struct optes_allotment expected = {1, 150000, {100000}};
+    struct optes_book b = opened(d);
+    b.words[FIRST_RATE] = 150000;
+    b.words[FIRST_AMOUNT] = UINT64_C(999999999999999999);
+    expect_preview(d, &b, &expected);
+    struct optes_book over = b, more = b;
+    ended(d, &over);
+    more.words[FIRST_RATE + 1] = 99000;
+    more.words[FIRST_AMOUNT + 1] = 1;
+    CHECK(call_preview(d, &more) == 16);
+    CHECK(call_close(d, &more, past_cut_off) == 0);
+    awards_refused(d, &more, 16);
+}
+
+// No clock passes the end of the last day, so that a tender with this cut-off, which no announcement opens, cannot be
+// closed: a preview answers all the same.
+static void no_later_clock(const struct desk *d)
+{
+    const struct moment last = {31129999, 235959};
+    struct optes_book b = filled(d);
+    const struct optes_allotment shown = previewed(d, &b);
+    CHECK(b.words[EXECUTION] == 12032012 && b.words[CUT_OFF] == 110000);
+    b.words[EXECUTION] = last.date;
+    b.words[CUT_OFF] = last.time;
+    CHECK(call_close(d, &b, last) == 13 && call_allot(d, &b) == 14);
+    expect_preview(d, &b, &shown);
 }
 
 // The limits of a tender stand where they are said to, one for each code.
@@ -136,7 +180,7 @@ static void with_limit(const struct desk *d, uint64_t limit, uint64_t first, uin
     confirmed(d, &b, 90001, 102900, (struct bid){150000, 100000});
     confirmed(d, &b, 90002, 102900, (struct bid){150000, 100000});
     b.words[FIRST_LIMIT] = limit;
-    CHECK(call_close(d, &b, past_cut_off) == 0 && call_allot(d, &b) == 0);
+    ended(d, &b);
     CHECK(desk_awards(d)[0] == first && desk_awards(d)[10] == second);
     CHECK(call_limits(d, &b) == 0 && desk_told(d)[1] == limit);
 }
@@ -168,6 +212,8 @@ void damage_cases(const struct desk *d)
     heads(d);
     order_of_codes(d);
     bids_exceed(d);
+    bids_at_most(d);
+    no_later_clock(d);
     where_limits_stand(d);
     any_limit(d);
 }

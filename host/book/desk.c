@@ -153,15 +153,34 @@ uint64_t call_close(const struct desk *d, struct optes_book *b, struct moment at
     return take_words(d, b, words, optes_words_close(words, d->count, at.date, at.time));
 }
 
+// The marginal rate and the awards, past which the entries are left; all of a refused call are.
+static void expect_awards_left(const struct desk *d, uint64_t answer)
+{
+    expect_left(desk_told(d), d->numbers, answer, OPTES_BOOK_MARGINAL_NUMBERS);
+    expect_left(desk_awards(d), d->places, answer, OPTES_BOOK_PLACES);
+}
+
 uint64_t call_allot(const struct desk *d, struct optes_book *b)
 {
     uint64_t *words = lend_words(d, b);
     uint64_t *told = lend_numbers(&d->told, d->numbers);
     uint64_t *awards = lend_numbers(&d->awards, d->places);
     uint64_t answer = optes_words_allot(words, d->count, awards, d->places, told, d->numbers);
-    expect_left(told, d->numbers, answer, OPTES_BOOK_MARGINAL_NUMBERS);
-    expect_left(awards, d->places, answer, OPTES_BOOK_PLACES);
+    expect_awards_left(d, answer);
     return take_words(d, b, words, answer);
+}
+
+uint64_t call_preview(const struct desk *d, const struct optes_book *b)
+{
+    const uint64_t *words = lend_words(d, b);
+    uint64_t *told = lend_numbers(&d->told, d->numbers);
+    uint64_t *awards = lend_numbers(&d->awards, d->places);
+    guarded_read_only(&d->words);
+    uint64_t answer = optes_words_preview(words, d->count, awards, d->places, told, d->numbers);
+    guarded_writable(&d->words);
+    expect_awards_left(d, answer);
+    expect_same_words(d, b, words);
+    return answer;
 }
 
 uint64_t call_revoke(const struct desk *d, struct optes_book *b)

@@ -40,6 +40,7 @@ uint64_t call_receive(const struct desk *d, struct optes_book *b, const void *m,
     struct moment at);
 uint64_t call_close(const struct desk *d, struct optes_book *b, struct moment at);
 uint64_t call_allot(const struct desk *d, struct optes_book *b);
+uint64_t call_preview(const struct desk *d, const struct optes_book *b); // On pages that may not be written.
 uint64_t call_revoke(const struct desk *d, struct optes_book *b);
 uint64_t call_state(const struct desk *d, const struct optes_book *b);
 uint64_t call_terms(const struct desk *d, const struct optes_book *b);

@@ -1,4 +1,5 @@
-// Closing, allotting and revoking: what they give, in which state they are refused, and what stays.
+// Closing, allotting and revoking: what they give, in which state they are refused, and what stays. What an
+// allotment gives is held to the previews before it.
 #include <string.h>
 
 #include "cases.h"
@@ -52,24 +53,39 @@ static void states(const struct desk *d)
     CHECK(call_allot(d, &over) == 8);
 }
 
-// The awards of the worked session, in arrays of every length.
-static void worked_awards(const struct desk *d)
+// A call that gives awards.
+typedef uint64_t give_awards(const struct desk *d, struct optes_book *b);
+
+static uint64_t preview(const struct desk *d, struct optes_book *b)
+{
+    return call_preview(d, b);
+}
+
+// The call gives the awards of the worked session in arrays of every length, and leaves this state.
+static void every_length(const struct desk *d, const struct optes_book *before, give_awards *call, uint64_t state)
 {
     const uint64_t awards[] = {22223, 60000, 17777}, rate = 120000, told[] = {1, 120000};
-    const struct optes_book before = closed(d);
-    struct optes_book b = before;
+    struct optes_book b = *before;
     struct desk less = *d;
-    CHECK(call_allot(d, &b) == 0);
+    CHECK(call(d, &b) == 0);
     expect_awards(d, awards, CODES, &rate);
     for (less.places = 0; less.places <= OPTES_BOOK_PLACES + 4; less.places++) {
-        b = before;
+        b = *before;
         less.numbers = less.places % 5;
-        CHECK(call_allot(&less, &b) == 0 && call_state(d, &b) == 2);
+        CHECK(call(&less, &b) == 0 && call_state(d, &b) == state);
         for (size_t k = 0; k < less.places && k < OPTES_BOOK_PLACES; k++)
             CHECK(desk_awards(&less)[k] == (k % 10 == 0 && k / 10 < CODES ? awards[k / 10] : 0));
         for (size_t k = 0; k < less.numbers && k < 2; k++)
             CHECK(desk_told(&less)[k] == told[k]);
     }
+}
+
+static void worked_awards(const struct desk *d)
+{
+    const struct optes_book open = filled(d), over = closed(d);
+    every_length(d, &over, call_allot, 2);
+    every_length(d, &over, preview, 1);
+    every_length(d, &open, preview, 0);
 }
 
 // A tender with this text in its announcement and one bid of 10000 for each rate, one for each code.
@@ -78,7 +94,7 @@ static void allotted(const struct desk *d, size_t at, const char *text, const ui
     struct optes_book b = opened_with(d, at, text);
     for (size_t k = CODES; k > 0; k--)
         confirmed(d, &b, codes[k - 1], 102900, (struct bid){rates[k - 1], 10000});
-    CHECK(call_close(d, &b, past_cut_off) == 0 && call_allot(d, &b) == 0);
+    ended(d, &b);
 }
 
 // Three equal bids share 10000, by book order and not by arrival; the limit rate is in and a lower one out
@@ -104,7 +120,7 @@ static void other_awards(const struct desk *d)
         application_of(application, codes[k], 102900, &(struct bid){around[k], 10000}, 1);
         CHECK(call_receive(d, &b, application, sizeof application, in_time) == 0);
     }
-    CHECK(call_close(d, &b, past_cut_off) == 0 && call_allot(d, &b) == 0);
+    ended(d, &b);
     expect_awards(d, least, CODES, &lowest);
 }
 
@@ -112,7 +128,7 @@ static void other_awards(const struct desk *d)
 static void no_bids(const struct desk *d)
 {
     struct optes_book b = opened(d);
-    CHECK(call_close(d, &b, past_cut_off) == 0 && call_allot(d, &b) == 0);
+    ended(d, &b);
     expect_awards(d, NULL, 0, NULL);
 }
 
@@ -134,7 +150,7 @@ static void full_book(const struct desk *d)
         CHECK(call_receive(d, &b, application, sizeof application, in_time) == 0);
         CHECK(desk_told(d)[1] == 0);
     }
-    CHECK(call_close(d, &b, past_cut_off) == 0 && call_allot(d, &b) == 0);
+    ended(d, &b);
     CHECK(desk_told(d)[0] == 1 && desk_told(d)[1] == 99999000);
     // 999999999999999 divided by 640 is 1562499999999, and 639 cents are left.
     for (size_t k = 0; k < OPTES_BOOK_PLACES; k++)

@@ -16,16 +16,14 @@
 // The bids of a code are received and confirmed.
 static void bids(const struct desk *d, struct optes_book *b, uint64_t code, const struct bid *list, size_t count)
 {
-    uint8_t m[APPLICATION_BYTES], reply[REPLY_MOST];
-    application_of(m, code, 102900, list, count);
-    CHECK(call_receive(d, b, m, sizeof m, in_time) == 0);
-    expect_reply(d, reply, confirmation_of(reply, m, in_time.time), NULL, 0);
+    confirmed_bids(d, b, code, 102900, list, count);
 }
 
-// The tender closes and gives these awards to the places of the three codes, and this marginal rate or none.
+// The tender closes and gives these awards to the places of the three codes, and this marginal rate or none, as
+// its previews do.
 static void gives(const struct desk *d, struct optes_book *b, const uint64_t *awards, const uint64_t *rate)
 {
-    CHECK(call_close(d, b, past_cut_off) == 0 && call_allot(d, b) == 0);
+    ended(d, b);
     CHECK(desk_told(d)[0] == (rate != NULL) && desk_told(d)[1] == (rate != NULL ? *rate : 0));
     for (size_t k = 0; k < OPTES_BOOK_PLACES; k++)
         CHECK(desk_awards(d)[k] == (k < CODES * PLACES ? awards[k] : 0));
@@ -194,7 +192,7 @@ static struct optes_book many_bids(const struct desk *d, const char *offered)
     tells(d, &b, all.limits, OPTES_BOOK_CODES);
     for (size_t k = 0; k < OPTES_BOOK_CODES; k++)
         bids(d, &b, all.codes[k], &(struct bid){150000, 20000}, 1);
-    CHECK(call_close(d, &b, past_cut_off) == 0 && call_allot(d, &b) == 0);
+    ended(d, &b);
     return b;
 }
 
@@ -223,7 +221,7 @@ static void held_uncut(const struct desk *d)
     struct optes_book b = opened_limits(d, 0, "", limits);
     bids(d, &b, 90002, &one_bid, 1);
     expect_held(d, &b, 90002, &time, &one_bid, 1);
-    CHECK(call_close(d, &b, past_cut_off) == 0 && call_allot(d, &b) == 0);
+    ended(d, &b);
     expect_held(d, &b, 90002, &time, &one_bid, 1);
 }
 

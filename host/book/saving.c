@@ -8,11 +8,11 @@
 // Closes and allots, and gives the award of the first place of the first code.
 static uint64_t first_award(const struct desk *d, struct optes_book b)
 {
-    CHECK(call_close(d, &b, past_cut_off) == 0 && call_allot(d, &b) == 0);
+    ended(d, &b);
     return desk_awards(d)[0];
 }
 
-// Two copies take different messages, and neither sees those of the other.
+// Two copies take different messages, and neither sees those of the other. A preview of one is none of the other.
 static void copied(const struct desk *d)
 {
     const uint64_t before = 103100, after = 103200;
@@ -48,14 +48,18 @@ static void saved(const struct desk *d)
     confirmed(d, &b, 90001, 103100, (struct bid){120000, 50000});
     b = read_back(&b);
     confirmed(d, &b, 90003, 103400, (struct bid){120000, 40000});
+    const struct optes_allotment shown = previewed(d, &b);
     b = read_back(&b);
+    expect_preview(d, &b, &shown);
     CHECK(call_close(d, &b, past_cut_off) == 0);
     b = read_back(&b);
     CHECK(call_state(d, &b) == 1);
+    expect_preview(d, &b, &shown);
     CHECK(call_allot(d, &b) == 0);
+    expect_given(d, &shown);
     CHECK(desk_awards(d)[0] == 22223 && desk_awards(d)[10] == 60000 && desk_awards(d)[20] == 17777);
     b = read_back(&b);
-    CHECK(call_state(d, &b) == 2 && call_allot(d, &b) == 15);
+    CHECK(call_state(d, &b) == 2 && call_allot(d, &b) == 15 && call_preview(d, &b) == 15);
 }
 
 // The limits go with the tender, copied or saved, until its awards.

@@ -65,6 +65,25 @@ static void ends(const struct desk *d)
     CHECK(optes_book_revoke(b) == OPTES_OK && optes_book_state(b) == OPTES_STATE_REVOKED);
 }
 
+// A preview gives what allotting would, or leaves all numbers where it is refused, and leaves the tender.
+static void previews(const struct desk *d)
+{
+    const struct optes_allotment expected = {1, 120000, {[0] = 22223, [10] = 60000, [20] = 17777}};
+    const struct optes_book answered[] = {filled(d), closed(d)}, refused[] = {announced(d), revoked(d)};
+    const uint64_t refusals[] = {OPTES_ALREADY_ANNOUNCED, OPTES_ALREADY_REVOKED};
+    for (size_t k = 0; k < 2; k++) {
+        const struct optes_book *b = book_of(d, &answered[k]);
+        struct optes_allotment *a = GUARDED(&d->awards, struct optes_allotment);
+        CHECK(optes_book_preview(b, a) == OPTES_OK && memcmp(a, &expected, sizeof *a) == 0);
+        CHECK(memcmp(b, &answered[k], sizeof *b) == 0);
+        b = book_of(d, &refused[k]);
+        a = GUARDED(&d->awards, struct optes_allotment);
+        CHECK(optes_book_preview(b, a) == refusals[k]);
+        pattern_expect((const uint8_t *)a, 0, sizeof *a);
+        CHECK(memcmp(b, &refused[k], sizeof *b) == 0);
+    }
+}
+
 // What a tender tells of itself.
 static void tells(const struct desk *d)
 {
@@ -146,7 +165,8 @@ static void no_tender(const struct desk *d)
     struct optes_answer answer;
     CHECK(optes_book_state(b) == OPTES_NO_TENDER && optes_book_revoke(b) == OPTES_NO_TENDER);
     CHECK(optes_book_close(b, 12032012, 110001) == OPTES_NO_TENDER);
-    CHECK(optes_book_allot(b, a) == OPTES_NO_TENDER && optes_book_terms(b, t) == OPTES_NO_TENDER);
+    CHECK(optes_book_allot(b, a) == OPTES_NO_TENDER && optes_book_preview(b, a) == OPTES_NO_TENDER);
+    CHECK(optes_book_terms(b, t) == OPTES_NO_TENDER);
     CHECK(optes_book_codes(b, (struct optes_codes *)a) == OPTES_NO_TENDER);
     CHECK(optes_book_limits(b, (struct optes_limits *)a) == OPTES_NO_TENDER);
     CHECK(optes_book_held(b, 90001, (struct optes_held *)a) == OPTES_NO_TENDER);
@@ -160,6 +180,7 @@ void struct_cases(const struct desk *d)
 {
     receives(d);
     ends(d);
+    previews(d);
     tells(d);
     limits(d);
     many_codes();

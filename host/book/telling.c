@@ -106,8 +106,8 @@ static void more_words(const struct desk *d)
 {
     struct desk more = *d;
     more.count = OPTES_BOOK_WORDS + 4;
-    const struct optes_book b = announced(&more);
-    CHECK(call_state(&more, &b) == 2);
+    const struct optes_book b = announced(&more), open = filled(&more);
+    CHECK(call_state(&more, &b) == 2 && call_preview(&more, &b) == 15 && call_preview(&more, &open) == 0);
     CHECK(call_terms(&more, &b) == 0 && call_codes(&more, &b) == 0 && call_limits(&more, &b) == 0);
     CHECK(call_held(&more, &b, 1) == 0);
 }

@@ -1,5 +1,5 @@
-// Two threads with a tender each, at the same time, held to what each does alone. tenders [ROUNDS] takes
-// each thread through so many tenders. Barriers are not in C11 itself.
+// Two threads with a tender each, and one that both preview, at the same time, held to what each does alone.
+// tenders [ROUNDS] takes each thread through so many tenders. Barriers are not in C11 itself.
 #define _DEFAULT_SOURCE
 #include <pthread.h>
 #include <string.h>
@@ -23,6 +23,7 @@ struct work {
 
 unsigned long checks = 0;
 static pthread_barrier_t start;
+static struct optes_book common; // The tender that both preview, which nobody writes then.
 
 // A number below the limit, another one at each call.
 static uint64_t next(uint64_t *seed, uint64_t limit)
@@ -65,24 +66,44 @@ static void receive(struct work *w, uint64_t *seed, struct optes_book *b)
     add(w, &answer, sizeof answer);
 }
 
-// A tender from its announcement to its awards, in which every other code is capped.
-static void tender(struct work *w, uint64_t *seed)
+static struct optes_allotment preview(struct work *w, const struct optes_book *b)
+{
+    struct optes_allotment a = {0};
+    w->wrong += optes_book_preview(b, &a) != 0;
+    add(w, &a, sizeof a);
+    return a;
+}
+
+// A tender with many receptions, in which every other code is capped, previewed between them.
+static void fill(struct work *w, uint64_t *seed, struct optes_book *b)
 {
     uint32_t codes[OPTES_BOOK_CODES];
     uint64_t limits[OPTES_BOOK_CODES];
-    struct optes_book b = {{0}};
-    struct optes_allotment a = {0};
     for (uint32_t k = 0; k < OPTES_BOOK_CODES; k++) {
         codes[k] = 90001 + k;
         limits[k] = k % 2 == 0 ? 0 : 1 + next(seed, 100000);
     }
-    w->wrong += optes_book_open_limits(&b, (const uint8_t *)announcement, ANNOUNCEMENT_BYTES, codes,
+    w->wrong += optes_book_open_limits(b, (const uint8_t *)announcement, ANNOUNCEMENT_BYTES, codes,
         OPTES_BOOK_CODES, limits, OPTES_BOOK_CODES) != 0;
-    for (int k = 0; k < RECEPTIONS; k++)
-        receive(w, seed, &b);
+    for (int k = 0; k < RECEPTIONS; k++) {
+        receive(w, seed, b);
+        if (k % 4 == 0)
+            preview(w, b);
+    }
+}
+
+// A tender from its announcement to its awards, which are those of its preview.
+static void tender(struct work *w, uint64_t *seed)
+{
+    struct optes_book b = {{0}};
+    struct optes_allotment a = {0};
+    fill(w, seed, &b);
+    preview(w, &common);
+    const struct optes_allotment shown = preview(w, &b);
     w->wrong += optes_book_close(&b, 12032012, 110001) != 0;
     w->wrong += optes_book_allot(&b, &a) != 0;
     w->wrong += optes_book_state(&b) != OPTES_STATE_ANNOUNCED;
+    w->wrong += memcmp(&shown, &a, sizeof a) != 0;
     add(w, &b, sizeof b);
     add(w, &a, sizeof a);
 }
@@ -103,8 +124,10 @@ static void *run_together(void *w)
 
 int main(int count, char **words)
 {
-    struct work alone[THREADS], together[THREADS];
+    struct work alone[THREADS], together[THREADS], filling = {.seed = THREADS};
     pthread_t threads[THREADS];
+    fill(&filling, &filling.seed, &common);
+    CHECK(filling.wrong == 0);
     for (int k = 0; k < THREADS; k++) {
         alone[k] = (struct work){.seed = k, .rounds = count > 1 ? strtoull(words[1], NULL, 10) : 100};
         together[k] = alone[k];

@@ -41,12 +41,18 @@ void expect_reply(const struct desk *d, const uint8_t *reply, size_t length, con
     pattern_expect(desk_space(d), length, d->room);
 }
 
-void confirmed(const struct desk *d, struct optes_book *b, uint64_t code, uint64_t time, struct bid bid)
+void confirmed_bids(const struct desk *d, struct optes_book *b, uint64_t code, uint64_t time, const struct bid *bids,
+    size_t count)
 {
     uint8_t m[APPLICATION_BYTES], reply[REPLY_MOST];
-    application_of(m, code, time, &bid, 1);
+    application_of(m, code, time, bids, count);
     CHECK(call_receive(d, b, m, sizeof m, in_time) == 0);
     expect_reply(d, reply, confirmation_of(reply, m, in_time.time), NULL, 0);
+}
+
+void confirmed(const struct desk *d, struct optes_book *b, uint64_t code, uint64_t time, struct bid bid)
+{
+    confirmed_bids(d, b, code, time, &bid, 1);
 }
 
 struct optes_book filled(const struct desk *d)
@@ -61,6 +67,40 @@ struct optes_book filled(const struct desk *d)
     CHECK(call_receive(d, &b, m, sizeof m, in_time) == 0);
     expect_reply(d, reply, returned_with(reply, m, "601 - 302"), &old, 1);
     return b;
+}
+
+static struct optes_allotment given(const struct desk *d)
+{
+    struct optes_allotment a = {.has_marginal = desk_told(d)[0], .marginal = desk_told(d)[1]};
+    memcpy(a.awards, desk_awards(d), sizeof a.awards);
+    return a;
+}
+
+struct optes_allotment previewed(const struct desk *d, const struct optes_book *b)
+{
+    CHECK(call_preview(d, b) == 0);
+    return given(d);
+}
+
+void expect_given(const struct desk *d, const struct optes_allotment *expected)
+{
+    const struct optes_allotment a = given(d);
+    CHECK(memcmp(&a, expected, sizeof a) == 0);
+}
+
+void expect_preview(const struct desk *d, const struct optes_book *b, const struct optes_allotment *expected)
+{
+    CHECK(call_preview(d, b) == 0);
+    expect_given(d, expected);
+}
+
+void ended(const struct desk *d, struct optes_book *b)
+{
+    const struct optes_allotment before = previewed(d, b);
+    CHECK(call_close(d, b, past_cut_off) == 0);
+    expect_preview(d, b, &before);
+    CHECK(call_allot(d, b) == 0);
+    expect_given(d, &before);
 }
 
 struct optes_book closed(const struct desk *d)

@@ -29,8 +29,20 @@ struct optes_book opened_with(const struct desk *d, size_t at, const char *text)
 // The same with these credit limits, one for each code.
 struct optes_book opened_limits(const struct desk *d, size_t at, const char *text, const uint64_t *limits);
 
-// An application with one bid is received in time and confirmed.
+// An application with these bids, or with one, is received in time and confirmed. One without bids cancels.
+void confirmed_bids(const struct desk *d, struct optes_book *b, uint64_t code, uint64_t time, const struct bid *bids,
+    size_t count);
 void confirmed(const struct desk *d, struct optes_book *b, uint64_t code, uint64_t time, struct bid bid);
+
+// The last allotment or preview was lent room for all that it gives, and gave this.
+void expect_given(const struct desk *d, const struct optes_allotment *expected);
+
+// A preview is answered: what it gives, or that it gives this.
+struct optes_allotment previewed(const struct desk *d, const struct optes_book *b);
+void expect_preview(const struct desk *d, const struct optes_book *b, const struct optes_allotment *expected);
+
+// Closes the tender and allots it. Previews before and after the closing are held to what allotting gives.
+void ended(const struct desk *d, struct optes_book *b);
 
 // The last reception was answered by this reply, these errors and nothing else.
 void expect_reply(const struct desk *d, const uint8_t *reply, size_t length, const uint64_t *errors,
