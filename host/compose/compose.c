@@ -15,7 +15,8 @@
 
 const char program[] = "compose";
 
-// Adds the field of a line's step to the session, or its raw bytes.
+// Adds the field of a line's step to the session, or its raw bytes. A preview changes nothing and has no line in the
+// log, so that it is left out.
 static void add_step(const struct line *line, void *into)
 {
     struct bytes *session = into;
@@ -23,6 +24,8 @@ static void add_step(const struct line *line, void *into)
     if (step.kind == STEP_LIMITS)
         refuse(line, "limits stand in no session, and nobody is capped in its log: expected another step, or "
             "./rehearse for the script");
+    if (step.kind == STEP_PREVIEW)
+        return;
     if (step.kind == STEP_FIELD) {
         bytes_add_one(session, step.tag);
         bytes_add_one(session, (uint8_t)(step.held.length >> 8));

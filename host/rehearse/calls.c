@@ -72,7 +72,7 @@ static const char *call_form(uint8_t tag)
 
 void expect_call(const struct line *line, const struct step *step)
 {
-    if (step->kind == STEP_LIMITS)
+    if (step->kind == STEP_LIMITS || step->kind == STEP_PREVIEW)
         return;
     if (step->kind == STEP_RAW)
         refuse(line, "raw bytes make no call: expected another step, or field with a tag from A0 to A5");
@@ -186,22 +186,26 @@ static void allot(struct rehearsal *r)
         show_awards(&r->book, &given);
 }
 
+static void preview(const struct rehearsal *r)
+{
+    struct optes_allotment given;
+    if (!accepted(optes_book_preview(&r->book, &given)))
+        return;
+    printf("    preview: what allotting would give%s; nothing is announced\n",
+        optes_book_state(&r->book) == OPTES_STATE_OPEN ? " if the tender were closed now" : "");
+    show_awards(&r->book, &given);
+}
+
 static void revoke(struct rehearsal *r)
 {
     if (accepted(optes_book_revoke(&r->book)))
         puts("    revoked");
 }
 
-void make_call(struct rehearsal *r, const struct step *step)
+// Makes the call of a field on the tender.
+static void call_by_tag(struct rehearsal *r, const struct step *step)
 {
-    if (step->kind == STEP_LIMITS) {
-        keep_limits(r, &step->held);
-        return;
-    }
     switch (step->tag) {
-    case TAG_ADMIT:
-        admit(r, &step->held);
-        return;
     case TAG_ANNOUNCE:
         announce(r, &step->held);
         break;
@@ -217,5 +221,21 @@ void make_call(struct rehearsal *r, const struct step *step)
     default:
         allot(r);
     }
+}
+
+void make_call(struct rehearsal *r, const struct step *step)
+{
+    if (step->kind == STEP_LIMITS) {
+        keep_limits(r, &step->held);
+        return;
+    }
+    if (step->kind == STEP_FIELD && step->tag == TAG_ADMIT) {
+        admit(r, &step->held);
+        return;
+    }
+    if (step->kind == STEP_PREVIEW)
+        preview(r);
+    else
+        call_by_tag(r, step);
     printf("    state: %s\n", state_text(optes_book_state(&r->book)));
 }

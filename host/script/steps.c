@@ -76,6 +76,14 @@ static struct step limits_step(const struct line *line)
     return step;
 }
 
+// The preview of a line `preview`.
+static struct step preview_step(const struct line *line)
+{
+    struct step step = {.kind = STEP_PREVIEW};
+    hold_nothing(&step.held, line);
+    return step;
+}
+
 // The field of a line `field TAG BYTES ..`.
 static struct step any_field(const struct line *line)
 {
@@ -90,6 +98,7 @@ static _Noreturn void refuse_step(const struct line *line)
     struct bytes names = {0};
     for (size_t k = 0; k < sizeof steps / sizeof *steps; k++)
         bytes_add_name(&names, steps[k].name);
+    bytes_add_name(&names, "preview");
     bytes_add_name(&names, "limits");
     bytes_add_name(&names, "field");
     bytes_add_name(&names, "raw");
@@ -115,6 +124,8 @@ struct step step_of(const struct line *line)
         return raw_step(line);
     if (word_is(&line->words[0], "limits"))
         return limits_step(line);
+    if (word_is(&line->words[0], "preview"))
+        return preview_step(line);
     struct step step = word_is(&line->words[0], "field") ? any_field(line) : step_by_name(line);
     if (step.held.length > FIELD_MOST)
         refuse(line, "the field would hold %zu bytes: expected at most %d", step.held.length, FIELD_MOST);

@@ -8,8 +8,9 @@
 #include "line.h"
 
 // What a step comes to: a field of this tag that holds these bytes, at most 65,535 of them; bytes that are no
-// field; or credit limits, which no session has and which are held as one uint64_t each.
-enum step_kind { STEP_FIELD, STEP_RAW, STEP_LIMITS };
+// field; credit limits, which no session has and which are held as one uint64_t each; or a preview, which no
+// session has either and which holds nothing.
+enum step_kind { STEP_FIELD, STEP_RAW, STEP_LIMITS, STEP_PREVIEW };
 struct step {
     enum step_kind kind;
     uint8_t tag;
