@@ -1,4 +1,4 @@
-//! The OPTES tender book and its session log, written from document 01, requests S-1 and S-2 of
+//! The OPTES tender book and its session log, written from document 01, requests S-1, S-2 and S-4 of
 //! document 02 and the reading of their open points in docs/DECISIONS.md, without a look at the Rattle
 //! sources.
 //!

@@ -183,11 +183,17 @@ impl Tender {
 
     /// Allots the closed tender and announces it.
     pub fn allot(&mut self) -> Result<Allotment, Refusal> {
-        Refusal::Revoked.if_so(self.state == State::Revoked)?;
         Refusal::StillOpen.if_so(self.state == State::Open)?;
+        let given = self.preview()?;
+        self.state = State::Announced;
+        Ok(given)
+    }
+
+    /// Tells what allotting would give, of an open tender as if it were closed now.
+    pub fn preview(&self) -> Result<Allotment, Refusal> {
+        Refusal::Revoked.if_so(self.state == State::Revoked)?;
         Refusal::Announced.if_so(self.state == State::Announced)?;
         Refusal::BidsExceed.if_so(self.total() > MOST_CENTS)?;
-        self.state = State::Announced;
         Ok(self.terms.offer.allot(&mut self.cut_bids()))
     }
 

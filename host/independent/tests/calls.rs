@@ -2,7 +2,7 @@
 
 mod common;
 
-use common::{application, DAY};
+use common::{application, told, Told, DAY};
 use independent::award::{Allotment, Amount, Bid, Rate};
 use independent::calendar::Moment;
 use independent::compose::{draft, written, Announcement};
@@ -59,11 +59,8 @@ fn close_and_allot(tender: &mut Tender) -> Allotment {
     given
 }
 
-/// The awards above zero, with their positions in book order, and the marginal rate.
-fn allotted(tender: &mut Tender) -> (Vec<(usize, u64)>, Option<u32>) {
-    let given = close_and_allot(tender);
-    let awards = given.awards.iter().map(|award| award.0).enumerate();
-    (awards.filter(|award| award.1 > 0).collect(), given.marginal_rate.map(|rate| rate.0))
+fn allotted(tender: &mut Tender) -> Told {
+    told(&close_and_allot(tender))
 }
 
 fn bids(places: &[(u64, u64)]) -> [Bid; 10] {

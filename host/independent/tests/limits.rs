@@ -2,10 +2,10 @@
 
 mod common;
 
-use common::DAY;
+use common::{receive, DAY};
 use independent::award::{Amount, Side};
 use independent::calendar::Moment;
-use independent::compose::{draft, written, Announcement};
+use independent::compose::Announcement;
 use independent::refusal::Refusal;
 use independent::tender::{State, Tender};
 
@@ -21,19 +21,12 @@ fn allotted(
 ) -> (Vec<(u32, usize, u64)>, Option<u32>) {
     let mut tender = Tender::open(&announcement.write(), &CODES, limits).expect("the tender opens");
     for (&code, bids) in CODES.iter().zip(applications) {
-        receive(&mut tender, u64::from(code), bids);
+        receive(&mut tender, u64::from(code), 100_000, bids);
     }
     assert_eq!(tender.close(Moment::of_numbers(DAY, 110_001)), Ok(()));
     let given = tender.allot().expect("the tender is allotted");
     let awards = tender.awards(&given).map(|award| (award.code, award.place, award.cents));
     (awards.collect(), given.marginal_rate.map(|rate| rate.0))
-}
-
-/// Receives an application, which has no error.
-fn receive(tender: &mut Tender, code: u64, bids: &[(u64, u64)]) {
-    let message = written(&draft(code, 100_000, bids));
-    let given = tender.receive(&message, Moment::of_numbers(DAY, 103_000), &mut [0; 436]);
-    assert!(given.expect("the message is received").errors.is_empty());
 }
 
 /// What the first code gets in the worked tender, by its places, where nobody else bids.
@@ -136,7 +129,9 @@ fn sixty_four_codes_each_with_a_limit() {
     let limits: Vec<u64> = (1..=64).collect();
     let message = Announcement::worked().write();
     let mut tender = Tender::open(&message, &codes, &limits).expect("the tender opens");
-    codes.iter().for_each(|&code| receive(&mut tender, u64::from(code), &[(150_000, 20_000)]));
+    for &code in &codes {
+        receive(&mut tender, u64::from(code), 100_000, &[(150_000, 20_000)]);
+    }
     assert_eq!(tender.close(Moment::of_numbers(DAY, 110_001)), Ok(()));
     let given = tender.allot().expect("the tender is allotted");
     let awards: Vec<u64> = tender.awards(&given).map(|award| award.cents).collect();
@@ -147,7 +142,7 @@ fn sixty_four_codes_each_with_a_limit() {
 fn what_is_held_is_not_cut() {
     let message = Announcement::worked().write();
     let mut tender = Tender::open(&message, &CODES, &[1; 3]).expect("the tender opens");
-    receive(&mut tender, 90002, &[(150_000, 60_000)]);
+    receive(&mut tender, 90002, 100_000, &[(150_000, 60_000)]);
     assert_eq!(tender.close(Moment::of_numbers(DAY, 110_001)), Ok(()));
     assert_eq!(tender.allot().map(|given| given.awards[10]), Ok(Amount(1)));
     assert_eq!(tender.book[1].bids[0].amount, Amount(60_000));
