@@ -1,6 +1,7 @@
 //! Sequences of calls on a tender that are generated, and the comparison of what each call does.
 
 pub mod book;
+pub mod buffers;
 pub mod comparison;
 pub mod cuts;
 #[cfg(test)]
@@ -14,6 +15,7 @@ pub mod library_book;
 pub mod limits;
 pub mod look;
 pub mod padded;
+pub mod previews;
 pub mod reduce;
 pub mod run;
 pub mod script;
@@ -34,6 +36,7 @@ mod tests {
     use super::independent_book::IndependentBook;
     use super::library_book::LibraryBook;
     use super::reduce::difference;
+    use super::step::Step;
     use super::*;
 
     #[test]
@@ -51,7 +54,7 @@ mod tests {
         for seed in DEFAULT_SEED..DEFAULT_SEED + DEFAULT_COUNT / 10 {
             drawn.count(&generate::sequence(seed));
         }
-        assert_eq!(drawn.counts.len(), 63, "each boundary was looked for: {:?}", drawn.counts);
+        assert_eq!(drawn.counts.len(), 70, "each boundary was looked for: {:?}", drawn.counts);
         assert!(drawn.counts.values().all(|&count| count >= 20), "{:?}", drawn.counts);
     }
 
@@ -61,12 +64,16 @@ mod tests {
         assert_ne!(generate::sequence(7), generate::sequence(8));
     }
 
-    /// The fault that the marginal rate is that of the uncut bids.
-    const LONGER: usize = 24;
+    /// The most steps that may be left of the first sequence that shows a fault, and of those of the
+    /// faults that need many bids: a bid cut to zero that stays in line, and the marginal rate of the
+    /// uncut bids.
+    const FEW: usize = 5;
+    const MORE: usize = 7;
+    const LONGER: [usize; 2] = [21, 24];
 
-    /// The number of the sequence that shows the fault, and how many steps are left of it; its script
+    /// The number of the sequence that shows the fault, and the steps that are left of it; its script
     /// shows the fault, too.
-    fn shown<const FAULT: usize>(first: u64) -> (u64, usize) {
+    fn shown<const FAULT: usize>(first: u64) -> (u64, Vec<Step>) {
         let fault = FAULTS[FAULT];
         let mut comparison = Comparison::<Faulty<FAULT>>::default();
         let Err(differs) = comparison.compare(DEFAULT_SEED + first, 2000 - first) else {
@@ -75,32 +82,52 @@ mod tests {
         let script = script::steps(&differs.script()).expect("the script can be read");
         assert!(difference::<Faulty<FAULT>>(&script).is_some(), "{fault}: not in the script");
         assert!(difference::<IndependentBook>(&script).is_none(), "{fault}: found without it");
-        (differs.seed - DEFAULT_SEED, script.len())
+        (differs.seed - DEFAULT_SEED, script)
     }
 
     /// How many steps are left of the first sequence that shows the fault.
     fn steps_for<const FAULT: usize>() -> usize {
-        shown::<FAULT>(0).1
+        shown::<FAULT>(0).1.len()
     }
 
-    /// The most steps that may be left of the first sequence that shows a fault: 5, but 13 for the one
-    /// fault whose first sequence the reduction leaves longer.
-    fn most_steps(fault: &str) -> usize {
-        if fault == FAULTS[LONGER] {
-            13
+    fn most_steps(fault: usize) -> usize {
+        if LONGER.contains(&fault) {
+            MORE
         } else {
-            5
+            FEW
+        }
+    }
+
+    /// Looks for a sequence that shows a longer fault in few steps.
+    fn find_few_steps<const FAULT: usize>() {
+        let (mut last, mut steps) = shown::<FAULT>(0);
+        assert!(steps.len() > FEW, "the exception for it is not needed any more");
+        // Where no sequence is left this panics.
+        while steps.len() > FEW {
+            (last, steps) = shown::<FAULT>(last + 1);
         }
     }
 
     #[test]
-    fn the_longer_fault_is_told_in_few_steps_later() {
-        let (mut last, mut steps) = shown::<LONGER>(0);
-        assert!(steps > 5, "the exception for it is not needed any more");
-        // Where no sequence is left this panics.
-        while steps > 5 {
-            (last, steps) = shown::<LONGER>(last + 1);
-        }
+    fn the_longer_faults_are_told_in_few_steps_later() {
+        find_few_steps::<{ LONGER[0] }>();
+        find_few_steps::<{ LONGER[1] }>();
+    }
+
+    /// Whether the first sequence that shows the fault has no such call left.
+    fn is_shown_without<const FAULT: usize>(kind: &str) -> bool {
+        shown::<FAULT>(0).1.iter().all(|step| step.call.kind() != kind)
+    }
+
+    /// The faults that a cent goes to the last bid of a rate, in allotments and in no preview, and that
+    /// a refused preview writes a word.
+    const CENT: usize = 3;
+    const WORD: usize = 34;
+
+    #[test]
+    fn faults_are_found_without_the_calls_that_have_them() {
+        assert!(is_shown_without::<CENT>("allot"));
+        assert!(is_shown_without::<WORD>("preview"));
     }
 
     #[test]
@@ -141,9 +168,17 @@ mod tests {
             steps_for::<24>(),
             steps_for::<25>(),
             steps_for::<26>(),
+            steps_for::<27>(),
+            steps_for::<28>(),
+            steps_for::<29>(),
+            steps_for::<30>(),
+            steps_for::<31>(),
+            steps_for::<32>(),
+            steps_for::<33>(),
+            steps_for::<34>(),
         ];
         assert_eq!(steps.len(), FAULTS.len());
-        let few = FAULTS.iter().zip(steps).all(|(fault, steps)| steps <= most_steps(fault));
+        let few = steps.iter().enumerate().all(|(fault, &steps)| steps <= most_steps(fault));
         assert!(few, "{steps:?}");
     }
 }

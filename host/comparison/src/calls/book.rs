@@ -29,6 +29,8 @@ pub trait Book {
     ) -> u64;
     fn close(words: &mut [u64], clock: (u64, u64)) -> u64;
     fn allot(words: &mut [u64], awards: &mut [u64], told: &mut [u64]) -> u64;
+    /// The words are lent for writing, so that a preview that writes one is seen.
+    fn preview(words: &mut [u64], awards: &mut [u64], told: &mut [u64]) -> u64;
     fn revoke(words: &mut [u64]) -> u64;
     fn state(words: &[u64]) -> u64;
     fn terms(words: &[u64], told: &mut [u64]) -> u64;

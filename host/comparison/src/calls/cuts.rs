@@ -5,9 +5,12 @@ use independent::application::PLACES;
 use independent::award::{Allotment, PlacedBid, Rate, Side};
 use independent::tender::{Tender, MOST_CODES};
 
+/// The name of what limits do most.
+pub const CUT: &str = "a bid cut";
+
 /// What limits can do to the bids of a counterparty that has one.
 const OF_CODE: [(&str, fn(&Cut) -> bool); 14] = [
-    ("a bid cut", |cut| cut.cut().next().is_some()),
+    (CUT, |cut| cut.cut().next().is_some()),
     ("a bid cut to zero", |cut| cut.dropped().next().is_some()),
     ("a cut bid that shares", |cut| cut.cut().any(|placed| cut.allotted.has_part(placed))),
     ("a cut bid below the minimum", |cut| cut.has_less_than_minimum()),
@@ -46,7 +49,7 @@ pub fn names() -> impl Iterator<Item = &'static str> {
     OF_CODE.iter().map(|of| of.0).chain(OF_TENDER.iter().map(|of| of.0))
 }
 
-/// A closed tender, its bids within the limit rate after the cuts, and what they are given.
+/// A tender, its bids within the limit rate after the cuts, and what they are given.
 struct Allotted<'a> {
     tender: &'a Tender,
     left: Vec<PlacedBid>,
@@ -62,7 +65,7 @@ struct Cut<'a> {
     after: Vec<PlacedBid>,
 }
 
-/// Which of the names the allotment of a closed tender shows.
+/// Which of the names the allotment or a preview of a tender shows.
 pub fn shown(tender: &Tender) -> Vec<&'static str> {
     let Some(allotted) = Allotted::of(tender) else { return Vec::new() };
     let cuts = (0..tender.book.len()).filter_map(|rank| Cut::of(&allotted, rank));
@@ -77,9 +80,9 @@ fn total(bids: &[PlacedBid]) -> u64 {
 }
 
 impl Allotted<'_> {
-    /// The tender allotted, or none where that is refused.
+    /// What the tender is or would be given, or none where that is refused.
     fn of(tender: &Tender) -> Option<Allotted<'_>> {
-        let given = tender.clone().allot().ok()?;
+        let given = tender.preview().ok()?;
         let mut left = tender.cut_bids();
         left.retain(|placed| tender.terms.offer.is_in(placed.bid.rate));
         Some(Allotted { tender, left, given })
@@ -89,7 +92,7 @@ impl Allotted<'_> {
     fn marginal_rates(&self) -> [Option<Rate>; 2] {
         let mut uncapped = self.tender.clone();
         uncapped.book.iter_mut().for_each(|holding| holding.cap = None);
-        let uncapped = uncapped.allot().ok().and_then(|given| given.marginal_rate);
+        let uncapped = uncapped.preview().ok().and_then(|given| given.marginal_rate);
         [self.given.marginal_rate, uncapped]
     }
 

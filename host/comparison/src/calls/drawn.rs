@@ -11,6 +11,7 @@ use crate::sessions::days::{day_after, day_before, seconds_away};
 use crate::sessions::plan::MOST_AMOUNT;
 use independent::application::Application;
 use independent::award::{Side, POSITIONS};
+use independent::refusal::Refusal;
 use independent::tender::{State, Tender, MOST_CODES};
 use std::collections::BTreeMap;
 
@@ -102,6 +103,10 @@ impl Drawn {
                     self.count_awards(tender, &given.awards.all()[..POSITIONS]);
                 }
             }
+            Call::Preview { places } => {
+                self.add("a preview with room for fewer awards", *places < POSITIONS);
+                self.count_preview(tender, result);
+            }
             Call::Revoke => self.add("revoked again", tender.state == State::Revoked),
             Call::Open { .. } => {
                 self.add("a refused opening over a tender", result != 0);
@@ -109,6 +114,19 @@ impl Drawn {
             }
             _ => (),
         }
+    }
+
+    /// Counts the states in which a tender is previewed, what refuses that, and bids that are cut in it.
+    fn count_preview(&mut self, tender: &Tender, result: u64) {
+        let state = tender.state;
+        let closed = Tender { state: State::Closed, ..tender.clone() };
+        let exceeds = closed.preview() == Err(Refusal::BidsExceed);
+        self.add("an open tender previewed", state == State::Open && result == 0);
+        self.add("a closed tender previewed", state == State::Closed && result == 0);
+        self.add("16 in a preview of an open tender", state == State::Open && result == 16);
+        self.add("15 before 16 in a preview", state == State::Announced && exceeds);
+        self.add("8 before 16 in a preview", state == State::Revoked && exceeds);
+        self.add("a preview of cut bids", cuts::shown(tender).contains(&cuts::CUT));
     }
 
     fn count_awards(&mut self, tender: &Tender, awards: &[u64]) {

@@ -1,5 +1,6 @@
 //! A book with one fault, to see that the comparison finds it.
 
+mod previews;
 mod walks;
 
 use self::walks::{allot_accepted, allot_changed, shift_limits, uncap, Walk};
@@ -13,7 +14,7 @@ use independent::award::Side;
 use independent::tender::Tender;
 
 /// The faults, by their numbers.
-pub const FAULTS: [&str; 27] = [
+pub const FAULTS: [&str; 35] = [
     "a byte of a confirmation is wrong",
     "a byte past a reply changes",
     "the time of an application with an error is held",
@@ -41,6 +42,14 @@ pub const FAULTS: [&str; 27] = [
     "the marginal rate is that of the uncut bids",
     "16 looks at the cut bids",
     "a bid of no amount drops out",
+    "a preview of an open tender is refused with 14",
+    "a preview announces the tender",
+    "an announced tender is previewed",
+    "a preview tells no marginal rate",
+    "a preview gives the awards of the uncut bids",
+    "a refused preview writes awards",
+    "16 comes before 8 and 15 in a preview",
+    "a refused preview writes the last word",
 ];
 /// The number of no fault.
 pub const NO_FAULT: usize = FAULTS.len();
@@ -202,6 +211,10 @@ impl<const FAULT: usize> Book for Faulty<FAULT> {
             _ => (),
         }
         result
+    }
+
+    fn preview(words: &mut [u64], awards: &mut [u64], told: &mut [u64]) -> u64 {
+        previews::preview::<FAULT>(words, awards, told)
     }
 
     fn revoke(words: &mut [u64]) -> u64 {

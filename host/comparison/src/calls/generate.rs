@@ -29,6 +29,10 @@ const ODD_CLOCKS: [(u64, u64); 6] = [
     (1 << 63, 0),
 ];
 
+/// An allotment and a preview with room for all awards.
+const ALLOTMENT: Call = Call::Allot { places: POSITIONS };
+const PREVIEW: Call = Call::Preview { places: POSITIONS };
+
 /// A sequence under way.
 struct Sequence<'a> {
     random: &'a mut Random,
@@ -151,27 +155,38 @@ impl Sequence<'_> {
         let next = cut_off == 235_959 || self.random.one_in(4);
         let after = (day_after(day), self.random.pick(&[0, cut_off]));
         let clock = if next { after } else { (day, seconds_away(cut_off, 1)) };
+        if self.random.one_in(6) {
+            self.push_odd_words(&PREVIEW, codes);
+        }
         self.push(Call::Close { clock });
         if self.random.one_in(6) {
             self.push_event(announcement);
         }
-        match self.random.below(16) {
-            0 | 1 => self.push_full_book(codes),
-            2..=5 => self.push_no_amounts(codes),
-            6 | 7 => self.push_odd_limits(codes),
-            8 | 9 => self.push_near_limits(),
-            _ => (),
-        }
+        self.push_odd_words(&ALLOTMENT, codes);
         let places = twist::places(self.random);
         self.push(Call::Allot { places });
         // An announced tender is asked again.
         for _ in 0..self.random.pick(&[0, 0, 1, 2]) {
             self.push_event(announcement);
         }
+        if self.random.one_in(24) {
+            self.push_full_book(&PREVIEW, codes);
+        }
     }
 
-    /// Allots a book with amounts in its words that no message can bring there.
-    fn push_full_book(&mut self, codes: usize) {
+    /// Mostly makes the call on a book with words that other calls bring there rarely or never.
+    fn push_odd_words(&mut self, call: &Call, codes: usize) {
+        match self.random.below(16) {
+            0 | 1 => self.push_full_book(call, codes),
+            2..=5 => self.push_no_amounts(call, codes),
+            6 | 7 => self.push_odd_limits(call, codes),
+            8 | 9 => self.push_near_limits(call),
+            _ => (),
+        }
+    }
+
+    /// Makes the call on a book with amounts in its words that no message can bring there.
+    fn push_full_book(&mut self, call: &Call, codes: usize) {
         let places = (PLACES * codes).min(30);
         let rest: u64 = 1 + self.random.below(1_000_000_000_000_000);
         let mut amounts = vec![rest; places];
@@ -185,7 +200,7 @@ impl Sequence<'_> {
             3 => amounts[..2].fill(1 << 63),
             _ => (),
         }
-        let mut step = Step::new(Call::Allot { places: POSITIONS });
+        let mut step = Step::new(call.clone());
         let words = amounts.iter().enumerate();
         step.sets = words.map(|(place, &amount)| (AMOUNTS + place, amount)).collect();
         if self.random.one_in(2) {
@@ -194,27 +209,27 @@ impl Sequence<'_> {
         self.steps.push(step);
     }
 
-    /// Allots with zero for some of the amounts in the words, so that bids have a rate and no amount.
-    fn push_no_amounts(&mut self, codes: usize) {
+    /// Makes the call with zero for some of the amounts in the words, so that bids have a rate and no
+    /// amount.
+    fn push_no_amounts(&mut self, call: &Call, codes: usize) {
         let places = 0..(PLACES * codes).min(30);
-        let mut step = Step::new(Call::Allot { places: POSITIONS });
+        let mut step = Step::new(call.clone());
         let emptied = places.filter(|_| self.random.one_in(4));
         step.sets = emptied.map(|place| (AMOUNTS + place, 0)).collect();
         self.steps.push(step);
     }
 
-    /// Asks or allots with limits in the words that no opening can bring there.
-    fn push_odd_limits(&mut self, codes: usize) {
+    /// Asks for the limits or makes the call with limits in the words that no opening can bring there.
+    fn push_odd_limits(&mut self, call: &Call, codes: usize) {
         let asks = self.random.one_in(2);
-        let mut step =
-            Step::new(if asks { Call::Limits } else { Call::Allot { places: POSITIONS } });
+        let mut step = Step::new(if asks { Call::Limits } else { call.clone() });
         step.sets = twist::limit_words(self.random, codes);
         self.steps.push(step);
     }
 
-    /// Allots with limits and an offer in the words that aim at what is held, and where they can move
-    /// the marginal rate, which few books allow.
-    fn push_near_limits(&mut self) {
+    /// Makes the call with limits and an offer in the words that aim at what is held, and where they can
+    /// move the marginal rate, which few books allow.
+    fn push_near_limits(&mut self, call: &Call) {
         let Some(mut tender) = held_after(&self.steps) else { return };
         for _ in 0..8 {
             limits::cap(self.random, &mut tender);
@@ -222,7 +237,7 @@ impl Sequence<'_> {
                 break;
             }
         }
-        let mut step = Step::new(Call::Allot { places: POSITIONS });
+        let mut step = Step::new(call.clone());
         let limits = tender.book.iter().map(layout::limit_number).enumerate();
         step.sets = limits.map(|(index, limit)| (LIMITS + index, limit)).collect();
         step.sets.push((OFFERED, tender.terms.offer.amount.0));
@@ -234,7 +249,7 @@ impl Sequence<'_> {
         let clock = self.clock(announcement);
         let code = u64::from(self.codes.first().copied().unwrap_or(90_001));
         let codes = self.codes.clone();
-        let call = match self.random.below(17) {
+        let call = match self.random.below(20) {
             0..=2 => Call::Close { clock },
             3 | 4 => Call::Revoke,
             5..=7 => Call::Allot { places: twist::places(self.random) },
@@ -247,6 +262,7 @@ impl Sequence<'_> {
             11 => Call::Terms,
             12 => Call::Codes,
             13 => Call::Limits,
+            14..=16 => Call::Preview { places: twist::places(self.random) },
             _ => Call::Held { code: code + self.random.pick(&[0, 0, 1, 2, 1 << 32]) },
         };
         if call != Call::Revoke {
@@ -256,6 +272,9 @@ impl Sequence<'_> {
         self.push(call);
         if self.random.one_in(4) {
             self.push(Call::Revoke);
+        }
+        if self.random.one_in(3) {
+            self.push_full_book(&PREVIEW, self.codes.len().max(1));
         }
         for _ in 0..self.random.below(3) {
             self.push_event(announcement);

@@ -12,6 +12,17 @@ use independent::tender::{Reception, Tender};
 /// The independent implementation.
 pub struct IndependentBook;
 
+/// What a call returns, which hands on what it gave where it is not refused.
+fn answer<T>(given: Result<T, Refusal>, hand_on: impl FnOnce(T)) -> u64 {
+    match given {
+        Ok(given) => {
+            hand_on(given);
+            OK
+        }
+        Err(refusal) => refusal.number(),
+    }
+}
+
 /// Calls the tender in the words and sets them where the call is not refused.
 fn change<T>(
     words: &mut [u64],
@@ -19,14 +30,10 @@ fn change<T>(
     tell: impl FnOnce(T),
 ) -> u64 {
     let Some(mut tender) = layout::tender_of(words) else { return NO_TENDER };
-    match call(&mut tender) {
-        Ok(given) => {
-            layout::put_changed(words, &tender);
-            tell(given);
-            OK
-        }
-        Err(refusal) => refusal.number(),
-    }
+    answer(call(&mut tender), |given| {
+        layout::put_changed(words, &tender);
+        tell(given);
+    })
 }
 
 /// Tells as many numbers as there is room for.
@@ -102,13 +109,8 @@ impl Book for IndependentBook {
         if words.len() < WORDS {
             return NO_TENDER;
         }
-        match Tender::open(message, codes, limits) {
-            Ok(tender) => {
-                layout::put_opened(words, &tender);
-                OK
-            }
-            Err(refusal) => refusal.number(),
-        }
+        let opened = Tender::open(message, codes, limits);
+        answer(opened, |tender| layout::put_opened(words, &tender))
     }
 
     fn receive(
@@ -130,6 +132,11 @@ impl Book for IndependentBook {
 
     fn allot(words: &mut [u64], awards: &mut [u64], told: &mut [u64]) -> u64 {
         change(words, Tender::allot, |given| tell_allotment(&given, awards, told))
+    }
+
+    fn preview(words: &mut [u64], awards: &mut [u64], told: &mut [u64]) -> u64 {
+        let Some(tender) = layout::tender_of(words) else { return NO_TENDER };
+        answer(tender.preview(), |given| tell_allotment(&given, awards, told))
     }
 
     fn revoke(words: &mut [u64]) -> u64 {

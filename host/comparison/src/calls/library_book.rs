@@ -21,6 +21,10 @@ extern "C" {
         words: *mut u64, count: usize, awards: *mut u64, places: usize,
         told: *mut u64, numbers: usize,
     ) -> u64;
+    fn optes_words_preview(
+        words: *const u64, count: usize, awards: *mut u64, places: usize,
+        told: *mut u64, numbers: usize,
+    ) -> u64;
     fn optes_words_revoke(words: *mut u64, count: usize) -> u64;
     fn optes_words_state(words: *const u64, count: usize) -> u64;
     fn optes_words_terms(
@@ -73,6 +77,15 @@ impl Book for LibraryBook {
     fn allot(words: &mut [u64], awards: &mut [u64], told: &mut [u64]) -> u64 {
         unsafe {
             optes_words_allot(
+                words.as_mut_ptr(), words.len(), awards.as_mut_ptr(), awards.len(),
+                told.as_mut_ptr(), told.len(),
+            )
+        }
+    }
+
+    fn preview(words: &mut [u64], awards: &mut [u64], told: &mut [u64]) -> u64 {
+        unsafe {
+            optes_words_preview(
                 words.as_mut_ptr(), words.len(), awards.as_mut_ptr(), awards.len(),
                 told.as_mut_ptr(), told.len(),
             )

@@ -1,22 +1,21 @@
 //! Makes calls on the library and on the independent implementation, and compares all that they do.
 
 use crate::calls::book::{Book, OK, WORDS};
+use crate::calls::buffers::{same_given, same_words};
 use crate::calls::cuts;
 use crate::calls::independent_book::IndependentBook;
 use crate::calls::layout;
 use crate::calls::look;
 use crate::calls::padded::{self, Padded};
+use crate::calls::previews::Previews;
 use crate::calls::step::{Call, Given, Step};
-use crate::difference::{hex, same, Difference};
-use std::fmt::Debug;
-
-/// How many bytes of a space are shown from the first that differs on.
-const SHOWN: usize = 24;
+use crate::difference::Difference;
 
 /// A sequence of calls under way: the words of both implementations.
 pub struct Run {
     library: Padded<u64>,
     expected: Padded<u64>,
+    previews: Previews,
 }
 
 /// What a call gave by both.
@@ -26,6 +25,8 @@ pub struct Seen {
     pub errors: Vec<u64>,
     /// What the limits did, of an allotment.
     pub cuts: Vec<&'static str>,
+    /// What a preview after the call gave, where it was not the same again.
+    pub preview: Option<&'static str>,
 }
 
 /// The step of a sequence at which the two differ.
@@ -48,7 +49,8 @@ pub fn run<L: Book>(steps: &[Step], mut see: impl FnMut(&Step, Seen)) -> Result<
 
 impl Run {
     fn new() -> Run {
-        Run { library: padded::numbers(WORDS), expected: padded::numbers(WORDS) }
+        let words = padded::numbers(WORDS);
+        Run { library: words.clone(), expected: words, previews: Previews::default() }
     }
 
     /// Makes one call by both.
@@ -60,46 +62,20 @@ impl Run {
         let lent = self.library.clone();
         let library = step.call::<L>(&mut self.library);
         let expected = step.call::<IndependentBook>(&mut self.expected);
-        same(library.result, expected.result, || "what the call returns".to_string())?;
-        compare_buffers(&library, &expected)?;
+        same_given(&library, &expected)?;
+        let left = self.library.clone();
         if step.is_refused(expected.result) {
-            compare_buffers(&library, &Given { result: library.result, ..step.lent() })?;
+            same_given(&library, &Given { result: library.result, ..step.lent() })?;
             same_words("must stay", &self.library, &lent)?;
             self.library = before.clone();
             self.expected = before;
         }
         look::compare::<L>(self.library.first(WORDS), self.expected.first(WORDS))?;
         same_words("after the call", &self.library, &self.expected)?;
+        let preview = self.previews.compare::<L>(left, step.words)?;
         let cuts = cuts_of(step, &expected, lent.first(step.words));
-        Ok(Seen { result: expected.result, errors: errors_of(step, &expected), cuts })
+        Ok(Seen { result: expected.result, errors: errors_of(step, &expected), cuts, preview })
     }
-}
-
-fn compare_buffers(library: &Given, expected: &Given) -> Result<(), Difference> {
-    same_elements("a number of the array", &library.told, &expected.told)?;
-    same_elements("an award", &library.awards, &expected.awards)?;
-    let Some((index, _, _)) = library.space.differs(&expected.space) else { return Ok(()) };
-    Err(Difference {
-        call: format!("the bytes of the space from index {index} on"),
-        library: hex(library.space.from(index, SHOWN)),
-        expected: hex(expected.space.from(index, SHOWN)),
-    })
-}
-
-/// Nothing where all elements are equal, also those around what was lent.
-fn same_elements<T: Copy + PartialEq + Debug>(
-    what: &str,
-    library: &Padded<T>,
-    expected: &Padded<T>,
-) -> Result<(), Difference> {
-    let Some((index, own, others)) = library.differs(expected) else { return Ok(()) };
-    same(own, others, || format!("{what}, index {index}"))
-}
-
-/// Nothing where all words are equal.
-fn same_words(when: &str, library: &Padded<u64>, expected: &Padded<u64>) -> Result<(), Difference> {
-    let Some((index, own, others)) = library.differs(expected) else { return Ok(()) };
-    same(own, others, || format!("word {index}, {}, {when}", layout::name(index)))
 }
 
 /// What the limits of the tender in the words did in an allotment.

@@ -13,6 +13,8 @@
 //!                                  recipient are CODE, or CODE/NUMBER/TEXT for a branch
 //!   receive DATE TIME BYTES ..     receives any message
 //!   close DATE TIME, allot, revoke
+//!   preview                        what allotting would give; a step that leaves other words than the
+//!                                  one before it is followed by a preview without a step for it
 //!   state, terms, codes, caps, held CODE
 //!                                  what the calls tell that change nothing; caps are the limits
 //! DATE and TIME are numbers, and need not be valid ones. BYTES are pairs of hexadecimal digits or
@@ -63,6 +65,7 @@ announce offered 15000
 
 apply 12032012 103000 90001 100000 150000/10000 cro 7 space 435
 close 12032012 110001 words 1559 set 1/4
+preview places 10 numbers 1
 held 90001 numbers 3
 ";
         assert_eq!(

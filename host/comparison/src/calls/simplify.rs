@@ -71,6 +71,7 @@ fn simpler_calls(call: &Call) -> Vec<Call> {
             messages.chain([with(message.clone(), SPACE)]).collect()
         }
         Call::Allot { .. } => vec![Call::Allot { places: POSITIONS }],
+        Call::Preview { .. } => vec![Call::Preview { places: POSITIONS }],
         _ => Vec::new(),
     }
 }

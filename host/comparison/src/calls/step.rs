@@ -10,6 +10,7 @@ pub enum Call {
     Receive { clock: (u64, u64), message: Vec<u8>, space: usize },
     Close { clock: (u64, u64) },
     Allot { places: usize },
+    Preview { places: usize },
     Revoke,
     State,
     Terms,
@@ -19,8 +20,10 @@ pub enum Call {
 }
 
 /// The names of the calls.
-pub const KINDS: [&str; 10] =
-    ["open", "receive", "close", "allot", "revoke", "state", "terms", "codes", "limits", "held"];
+pub const KINDS: [&str; 11] = [
+    "open", "receive", "close", "allot", "preview", "revoke", "state", "terms", "codes", "limits",
+    "held",
+];
 
 impl Call {
     /// The call's name.
@@ -30,12 +33,13 @@ impl Call {
             Call::Receive { .. } => 1,
             Call::Close { .. } => 2,
             Call::Allot { .. } => 3,
-            Call::Revoke => 4,
-            Call::State => 5,
-            Call::Terms => 6,
-            Call::Codes => 7,
-            Call::Limits => 8,
-            Call::Held { .. } => 9,
+            Call::Preview { .. } => 4,
+            Call::Revoke => 5,
+            Call::State => 6,
+            Call::Terms => 7,
+            Call::Codes => 8,
+            Call::Limits => 9,
+            Call::Held { .. } => 10,
         }]
     }
 
@@ -43,7 +47,7 @@ impl Call {
     pub fn told(&self) -> usize {
         match self {
             Call::Receive { .. } => book::ANSWER_NUMBERS,
-            Call::Allot { .. } => book::ALLOTMENT_NUMBERS,
+            Call::Allot { .. } | Call::Preview { .. } => book::ALLOTMENT_NUMBERS,
             Call::Terms => book::TERMS_NUMBERS,
             Call::Codes => book::CODES_NUMBERS,
             Call::Limits => book::LIMITS_NUMBERS,
@@ -86,7 +90,7 @@ impl Step {
         let (mut space, mut places) = (0, 0);
         match self.call {
             Call::Receive { space: room, .. } => space = room,
-            Call::Allot { places: count } => places = count,
+            Call::Allot { places: count } | Call::Preview { places: count } => places = count,
             _ => (),
         }
         let (awards, told) = (padded::numbers(places), padded::numbers(self.numbers));
@@ -105,6 +109,7 @@ impl Step {
             }
             Call::Close { clock } => B::close(words, *clock),
             Call::Allot { .. } => B::allot(words, awards.all_mut(), told),
+            Call::Preview { .. } => B::preview(words, awards.all_mut(), told),
             Call::Revoke => B::revoke(words),
             Call::State => B::state(words),
             Call::Terms => B::terms(words, told),

@@ -3,6 +3,7 @@
 use crate::addresses::shown::{Shown, NAMES};
 use crate::calls::book::{ANSWER_NUMBERS, NO_TENDER, OK};
 use crate::calls::cuts;
+use crate::calls::previews;
 use crate::calls::run::Seen;
 use crate::calls::step::{Call, Step, KINDS};
 use independent::application::Application;
@@ -15,12 +16,13 @@ const ERRORS: [u64; 19] =
 const LAST_REFUSAL: u64 = 16;
 const LIMIT_REFUSALS: [u64; 2] = [19, 20];
 
-/// How often each kind of call, each refusal, each error and what addresses and limits can show was
-/// seen.
+/// How often each kind of call, each refusal, each error and what addresses, limits and previews can
+/// show was seen.
 #[derive(Default)]
 pub struct Tally {
     pub sequences: u64,
     pub calls: u64,
+    previews: u64,
     addresses: Shown,
     counts: BTreeMap<String, u64>,
 }
@@ -44,6 +46,10 @@ impl Tally {
         }
         seen.errors.iter().for_each(|&code| self.add(error_name(code)));
         seen.cuts.iter().for_each(|name| self.add(name.to_string()));
+        if let Some(name) = seen.preview {
+            self.previews += 1;
+            self.add(name.to_string());
+        }
         self.count_addresses(step, seen);
     }
 
@@ -79,17 +85,22 @@ impl Tally {
 
     /// The counts in one line.
     pub fn text(&self) -> String {
-        let totals = format!("sequences: {}, calls: {}", self.sequences, self.calls);
+        let totals = format!(
+            "sequences: {}, calls: {}, previews of what calls left: {}",
+            self.sequences, self.calls, self.previews
+        );
         let counts = all().into_iter().map(|name| format!("{name}: {}", self.of(&name)));
         std::iter::once(totals).chain(counts).collect::<Vec<_>>().join(", ")
     }
 }
 
-/// The names of all kinds of call, of refusals, of errors and of what addresses and limits can show.
+/// The names of all kinds of call, of refusals, of errors and of what addresses, limits and previews
+/// can show.
 fn all() -> Vec<String> {
     let kinds = KINDS.iter().map(|kind| kind.to_string());
     let refusals = (1..=LAST_REFUSAL).chain(LIMIT_REFUSALS).chain([NO_TENDER]).map(refusal_name);
     let errors = ERRORS.into_iter().map(error_name);
-    let shown = NAMES.into_iter().chain(cuts::names()).map(str::to_string);
+    let shown = NAMES.into_iter().chain(cuts::names()).chain(previews::names());
+    let shown = shown.map(str::to_string);
     kinds.chain(refusals).chain(errors).chain(shown).collect()
 }

@@ -77,6 +77,7 @@ fn call_of(name: &str, words: &mut Words, admitted: &Admission) -> Result<Call, 
         }
         "close" => Call::Close { clock: clock_of(words)? },
         "allot" => Call::Allot { places: POSITIONS },
+        "preview" => Call::Preview { places: POSITIONS },
         "revoke" => Call::Revoke,
         "state" => Call::State,
         "terms" => Call::Terms,
@@ -166,7 +167,9 @@ const MOST: usize = 4096;
 fn put_key(step: &mut Step, key: &str, value: Result<&Word, String>) -> Result<(), String> {
     match (key, &mut step.call) {
         ("space", Call::Receive { space, .. }) => *space = at_most(key, value?, MOST)?,
-        ("places", Call::Allot { places }) => *places = at_most(key, value?, MOST)?,
+        ("places", Call::Allot { places } | Call::Preview { places }) => {
+            *places = at_most(key, value?, MOST)?;
+        }
         ("numbers", call) if call.told() > 0 => step.numbers = at_most(key, value?, MOST)?,
         ("words", _) => step.words = at_most(key, value?, WORDS + MARGIN)?,
         ("set", _) => step.sets.push(set_of(value?)?),

@@ -60,7 +60,7 @@ fn keys_text(step: &Step) -> String {
     };
     match step.call {
         Call::Receive { space, .. } => add("space", space, SPACE),
-        Call::Allot { places } => add("places", places, POSITIONS),
+        Call::Allot { places } | Call::Preview { places } => add("places", places, POSITIONS),
         _ => (),
     }
     add("numbers", step.numbers, step.call.told());
