@@ -1,5 +1,5 @@
-// Compares the library's shares and allotments with a plain reference in C, then measures both on the
-// same input in one run. With --check it only compares.
+// Compares the library's shares, allotments and previews with a plain reference in C, then measures both on
+// the same input in one run. With --check it only compares.
 #define _POSIX_C_SOURCE 200809L
 #include <inttypes.h>
 #include <stdbool.h>
@@ -10,6 +10,8 @@
 #include <string.h>
 #include <time.h>
 
+#include "optes_book.h"
+
 enum { CODES = 64, EACH = 10, PLACES = CODES * EACH, BOOKS = 3000, SHARES = 1024, RUNS = 25 };
 
 // The numbers past every rate that crate measured answers with.
@@ -18,6 +20,13 @@ enum { CODES = 64, EACH = 10, PLACES = CODES * EACH, BOOKS = 3000, SHARES = 1024
 
 #define MOST_BIDS UINT64_C(999999999999999999)
 #define WIDEST_AMOUNT UINT64_C(999999999999999)
+
+// The day and the second of the cut-off of a tender.
+enum { DAY = 12032012, CUT_OFF = 110000 };
+
+// Where the archive keeps what a tender has: its form, how many codes there are, its terms, and its book.
+enum { FORM = 0, COUNT = 2, SIDE_AT = 14, DAY_AT = 15, CUT_OFF_AT = 16, OFFERED_AT = 18, LIMIT_AT = 23 };
+enum { FIRST_CODE = 24, FIRST_RATE = 216, FIRST_AMOUNT = 856, FIRST_LIMIT = 1496, THE_FORM = 2 };
 
 typedef unsigned __int128 wide;
 
@@ -63,6 +72,85 @@ static void library_allot(const struct book *b, struct allotment *result)
     result->marginal = measured_allot(b->lp, b->limit, b->offered, b->limits, CODES, b->rates, PLACES,
         b->amounts, PLACES, result->awards, PLACES);
 }
+
+// An open tender that holds the book. Its words are set here, for messages could not bring every book there.
+static void open_tender(const struct book *b, struct optes_book *tender)
+{
+    uint64_t *words = tender->words;
+    memset(tender, 0, sizeof *tender);
+    words[FORM] = THE_FORM;
+    words[COUNT] = CODES;
+    words[SIDE_AT] = b->lp ? OPTES_SIDE_LP : OPTES_SIDE_LA;
+    words[DAY_AT] = DAY;
+    words[CUT_OFF_AT] = CUT_OFF;
+    words[OFFERED_AT] = b->offered;
+    words[LIMIT_AT] = b->limit;
+    for (size_t i = 0; i < CODES; i++) {
+        words[FIRST_CODE + i] = i;
+        words[FIRST_LIMIT + i] = b->limits[i];
+    }
+    for (size_t i = 0; i < PLACES; i++) {
+        words[FIRST_RATE + i] = b->rates[i];
+        words[FIRST_AMOUNT + i] = b->amounts[i];
+    }
+}
+
+// Allots a copy of the tender that is closed a second past its cut-off.
+static uint64_t allot_copy(const struct optes_book *tender, struct optes_allotment *told)
+{
+    struct optes_book copy = *tender;
+    uint64_t refusal = optes_book_close(&copy, DAY, CUT_OFF + 1);
+    return refusal == OPTES_OK ? optes_book_allot(&copy, told) : refusal;
+}
+
+// The answer of a call on a tender as crate measured gives it, which has zeros where the bids exceed.
+static void take_answer(uint64_t refusal, const struct optes_allotment *told, struct allotment *result)
+{
+    memset(result->awards, 0, sizeof result->awards);
+    result->marginal = refusal == OPTES_BIDS_EXCEED ? EXCEEDS : UINT64_MAX;
+    if (refusal != OPTES_OK)
+        return;
+    memcpy(result->awards, told->awards, sizeof result->awards);
+    result->marginal = told->has_marginal ? told->marginal : NO_RATE;
+}
+
+// A call that tells what an open tender would be given.
+typedef uint64_t teller(const struct optes_book *tender, struct optes_allotment *told);
+
+static void ask_tender(const struct book *b, teller *call, struct allotment *result)
+{
+    struct optes_book tender, before;
+    struct optes_allotment told;
+    memset(&told, 0xff, sizeof told);
+    open_tender(b, &tender);
+    before = tender;
+    take_answer(call(&tender, &told), &told, result);
+    if (memcmp(&tender, &before, sizeof tender) != 0) {
+        fprintf(stderr, "bench: a word of a tender was written that is only asked\n");
+        exit(1);
+    }
+}
+
+static void library_preview(const struct book *b, struct allotment *result)
+{
+    ask_tender(b, optes_book_preview, result);
+}
+
+static void library_copy(const struct book *b, struct allotment *result)
+{
+    ask_tender(b, allot_copy, result);
+}
+
+// The ways in which the library allots a book.
+static const struct way {
+    const char *name;
+    void (*allot)(const struct book *b, struct allotment *result);
+} ways[] = {
+    {"an allotment", library_allot},
+    {"a preview", library_preview},
+    {"an allotment of a closed copy", library_copy},
+};
+enum { WAYS = sizeof ways / sizeof ways[0] };
 
 __attribute__((noinline)) static uint64_t reference_share(uint64_t a, uint64_t m, uint64_t e)
 {
@@ -365,13 +453,13 @@ static void print_number(const char *name, uint64_t number)
 }
 
 // Prints the offer and the first place at which the awards differ, and stops.
-static void fail_book(int k, const struct book *b, const struct allotment *library,
+static void fail_book(const struct book *b, const struct allotment *library,
     const struct allotment *reference)
 {
     size_t i = 0;
     while (i < PLACES - 1 && library->awards[i] == reference->awards[i])
         i++;
-    fprintf(stderr, "bench: book %d differs: %s\n", k, b->lp ? "LP" : "LA");
+    fprintf(stderr, "  %s\n", b->lp ? "LP" : "LA");
     print_number("limit", b->limit);
     print_number("offered", b->offered);
     print_number("marginal rate, library", library->marginal);
@@ -385,16 +473,26 @@ static void fail_book(int k, const struct book *b, const struct allotment *libra
     exit(1);
 }
 
-// Compares the library with the reference, and both ways to find the marginal rate.
-static void compare_book(int k, const struct book *b, struct allotment *reference)
+// Compares one way of the library with what the reference gave.
+static void compare_way(int k, const struct way *way, const struct book *b,
+    const struct allotment *reference)
 {
     struct allotment library;
     memset(library.awards, 0xff, sizeof library.awards);
-    library_allot(b, &library);
-    reference_allot(b, reference);
+    way->allot(b, &library);
     if (library.marginal != reference->marginal
-        || memcmp(library.awards, reference->awards, sizeof library.awards) != 0)
-        fail_book(k, b, &library, reference);
+        || memcmp(library.awards, reference->awards, sizeof library.awards) != 0) {
+        fprintf(stderr, "bench: %s of book %d differs\n", way->name, k);
+        fail_book(b, &library, reference);
+    }
+}
+
+// Compares the library with the reference, and both ways to find the marginal rate.
+static void compare_book(int k, const struct book *b, struct allotment *reference)
+{
+    reference_allot(b, reference);
+    for (size_t i = 0; i < WAYS; i++)
+        compare_way(k, &ways[i], b, reference);
     if (scanned_marginal(b) != reference->marginal) {
         fprintf(stderr, "bench: the marginal rate of book %d differs by a look at all places\n", k);
         exit(1);
@@ -422,7 +520,7 @@ static void count_kinds(unsigned counts[KINDS], const struct book *b, uint64_t m
 // Prints how many books there are of each kind, and stops where there is none.
 static void print_kinds(const unsigned counts[KINDS])
 {
-    printf("%d books equal:", BOOKS);
+    printf("%d books equal, by an allotment, a preview and an allotment of a closed copy:", BOOKS);
     for (size_t i = 0; i < KINDS; i++) {
         printf("%s %s in %u", i == 0 ? "" : ",", kind_names[i], counts[i]);
         if (counts[i] == 0) {
@@ -474,6 +572,7 @@ static volatile uint64_t sink;
 
 static struct share shares[SHARES];
 static struct book measured_book;
+static struct optes_book measured_tender;
 
 static void library_shares(void)
 {
@@ -499,6 +598,20 @@ static void reference_book(void)
     struct allotment result;
     reference_allot(&measured_book, &result);
     sink += result.marginal + result.awards[0];
+}
+
+static void previewed_tender(void)
+{
+    struct optes_allotment told;
+    sink += optes_book_preview(&measured_tender, &told);
+    sink += told.marginal + told.awards[0];
+}
+
+static void copied_tender(void)
+{
+    struct optes_allotment told;
+    sink += allot_copy(&measured_tender, &told);
+    sink += told.marginal + told.awards[0];
 }
 
 static void scanned_book(void)
@@ -571,6 +684,14 @@ static void limit_book(void)
     b->offered = (uint64_t)(total(b) / 4);
 }
 
+// A preview of an open tender that holds the book, and what a host without previews would do instead.
+static void measure_preview(const char *name)
+{
+    open_tender(&measured_book, &measured_tender);
+    measure(name, previewed_tender, reference_book, 1000, "us");
+    measure("the same, a closed copy allotted", copied_tender, reference_book, 1000, "us");
+}
+
 static void measure_all(void)
 {
     printf("%-32s %12s %12s %7s\n", "", "Rattle", "reference", "ratio");
@@ -579,9 +700,11 @@ static void measure_all(void)
     measure("a share of 15 digits", library_shares, reference_shares, SHARES, "ns");
     fill_book(0);
     measure("an allotment, 640 bids, one rate", library_book, reference_book, 1000, "us");
+    measure_preview("a preview, 640 bids, one rate");
     fill_book(1000);
     measure("an allotment, 640 bids and rates", library_book, reference_book, 1000, "us");
     measure("the same, all places each rate", library_book, scanned_book, 1000, "us");
+    measure_preview("a preview, 640 bids and rates");
     limit_book();
     measure("640 bids, every code capped", library_book, reference_book, 1000, "us");
 }
