@@ -1,5 +1,5 @@
-// Words that no call left: each call but opening refuses them with 100 and leaves all that it was lent. This
-// file alone relies on where the archive keeps things: word 0 is the form number, word 1 the state, word 2
+// Words that no call left: each call but opening refuses them with 100 and leaves all that it was lent. In this
+// folder this file alone relies on where the archive keeps things: word 0 is the form number, word 1 the state, word 2
 // how many codes there are, words 15 and 16 are the day of execution and the cut-off, words 24 to 87 the codes,
 // words 216 to 855 their rates, words 856 to 1495 their amounts and words 1496 to 1559 their credit limits.
 #include <string.h>
