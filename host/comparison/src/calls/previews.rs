@@ -31,33 +31,9 @@ pub fn names() -> impl Iterator<Item = &'static str> {
     OUTCOMES.iter().map(|outcome| outcome.0)
 }
 
-/// The previews of a sequence: the words of the last one, and how many of them were lent.
-#[derive(Default)]
-pub struct Previews {
-    last: Option<(Padded<u64>, usize)>,
-}
-
-impl Previews {
-    /// Compares a preview of the words that a call left, of which so many are lent, and names what it
-    /// gave. Of the words of the last preview it would be the same again, so that there is none.
-    pub fn compare<L: Book>(
-        &mut self,
-        left: Padded<u64>,
-        count: usize,
-    ) -> Result<Option<&'static str>, Difference> {
-        let lent = (left, count);
-        if self.last.as_ref() == Some(&lent) {
-            return Ok(None);
-        }
-        let name = compare::<L>(&lent.0, count)?;
-        self.last = Some(lent);
-        Ok(Some(name))
-    }
-}
-
 /// Compares a preview of the words, of which so many are lent, with that of the independent
 /// implementation and with an allotment of a closed copy, and names what it gave.
-fn compare<L: Book>(left: &Padded<u64>, count: usize) -> Result<&'static str, Difference> {
+pub fn compare<L: Book>(left: &Padded<u64>, count: usize) -> Result<&'static str, Difference> {
     let step = |call| Step { words: count, ..Step::new(call) };
     let preview = step(Call::Preview { places: POSITIONS });
     let mut words = left.clone();

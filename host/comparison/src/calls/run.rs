@@ -7,7 +7,7 @@ use crate::calls::independent_book::IndependentBook;
 use crate::calls::layout;
 use crate::calls::look;
 use crate::calls::padded::{self, Padded};
-use crate::calls::previews::Previews;
+use crate::calls::previews;
 use crate::calls::step::{Call, Given, Step};
 use crate::difference::Difference;
 
@@ -15,7 +15,6 @@ use crate::difference::Difference;
 pub struct Run {
     library: Padded<u64>,
     expected: Padded<u64>,
-    previews: Previews,
 }
 
 /// What a call gave by both.
@@ -25,8 +24,8 @@ pub struct Seen {
     pub errors: Vec<u64>,
     /// What the limits did, of an allotment.
     pub cuts: Vec<&'static str>,
-    /// What a preview after the call gave, where it was not the same again.
-    pub preview: Option<&'static str>,
+    /// What a preview after the call gave.
+    pub preview: &'static str,
 }
 
 /// The step of a sequence at which the two differ.
@@ -49,8 +48,7 @@ pub fn run<L: Book>(steps: &[Step], mut see: impl FnMut(&Step, Seen)) -> Result<
 
 impl Run {
     fn new() -> Run {
-        let words = padded::numbers(WORDS);
-        Run { library: words.clone(), expected: words, previews: Previews::default() }
+        Run { library: padded::numbers(WORDS), expected: padded::numbers(WORDS) }
     }
 
     /// Makes one call by both.
@@ -72,7 +70,7 @@ impl Run {
         }
         look::compare::<L>(self.library.first(WORDS), self.expected.first(WORDS))?;
         same_words("after the call", &self.library, &self.expected)?;
-        let preview = self.previews.compare::<L>(left, step.words)?;
+        let preview = previews::compare::<L>(&left, step.words)?;
         let cuts = cuts_of(step, &expected, lent.first(step.words));
         Ok(Seen { result: expected.result, errors: errors_of(step, &expected), cuts, preview })
     }

@@ -22,7 +22,6 @@ const LIMIT_REFUSALS: [u64; 2] = [19, 20];
 pub struct Tally {
     pub sequences: u64,
     pub calls: u64,
-    previews: u64,
     addresses: Shown,
     counts: BTreeMap<String, u64>,
 }
@@ -46,10 +45,7 @@ impl Tally {
         }
         seen.errors.iter().for_each(|&code| self.add(error_name(code)));
         seen.cuts.iter().for_each(|name| self.add(name.to_string()));
-        if let Some(name) = seen.preview {
-            self.previews += 1;
-            self.add(name.to_string());
-        }
+        self.add(seen.preview.to_string());
         self.count_addresses(step, seen);
     }
 
@@ -85,10 +81,7 @@ impl Tally {
 
     /// The counts in one line.
     pub fn text(&self) -> String {
-        let totals = format!(
-            "sequences: {}, calls: {}, previews of what calls left: {}",
-            self.sequences, self.calls, self.previews
-        );
+        let totals = format!("sequences: {}, calls: {}", self.sequences, self.calls);
         let counts = all().into_iter().map(|name| format!("{name}: {}", self.of(&name)));
         std::iter::once(totals).chain(counts).collect::<Vec<_>>().join(", ")
     }
