@@ -1,16 +1,17 @@
 -- The totals of one counterparty's cut bids: at better rates, and of all bids in, the smaller of the cap and the total before. Assumes nothing.
 use mathlib.Core.Path.{_≡_, refl, sym, _∙_, ap}
-use mathlib.Core.Bool.{Bool, true, false, not, cond, _&&_, and-true, and-false}
+use mathlib.Core.Bool.{Bool, true, false, not, cond, _&&_, and-true}
 use mathlib.Core.List.{List, [], _∷_, _++_, List·Memᴰ·head, List·Memᴰ·tail}
 use Prim.Native.Nat.{ℕ, zero, suc, _+_, _-_, _<_, min}
 use native.Mathlib.Omega.{arith}
-use lib.Dec.{ltb, eqb}
+use lib.Dec.{ltb}
 use lib.ListN.{take, drop}
-use borrow.Author.Tests.{ltb-true, ltb-false, ne-eqb}
+use borrow.Author.Tests.{ltb-true, ltb-false}
 use Rattle.laws.proofs.Tests.{and-right}
 use Rattle.rules.specs.Allotment.{Bid, noBid, filled, Offer, betterRate, isIn, isBetter, isEqual, keep, total, totalBetter, totalEqual, totalIn}
 use Rattle.rules.specs.Cuts.{isCapped, cutTo, cutAbove, leftOfCap, cutBid, cutFrom, cutBids, cutBook}
 use Rattle.rules.proofs.Kept.{Agree, keep-agree, Split, total-cons, total-split}
+use Rattle.rules.proofs.Filled.{filled-above}
 use Rattle.rules.proofs.Rates.{notWorse, split-rate}
 use Rattle.rules.proofs.Sum.{equal-rate}
 use Rattle.rules.proofs.ByRates.{never, at-better, of-all-in}
@@ -105,12 +106,6 @@ module _ (o : Offer) (f : ℕ → Bool) where
   in-and : (b : Bid) (t : Bool) → isIn o b ≡ t → inAnd b ≡ t && f (b .rate)
   unfolding inAnd
   in-and b t h = ap (λ (s : Bool). s && f (b .rate)) h
-
-  filled-above : (b : Bid) → 0 < b .amount → filled b ≡ true
-  unfolding filled
-  filled-above b positive =
-      let some-amount : eqb (b .amount) 0 ≡ false = ne-eqb (b .amount) 0 (λ h. omega arith) in
-      ap (λ (t : Bool). not (eqb (b .rate) 0 && t)) some-amount ∙ ap not (and-false (eqb (b .rate) 0))
 
   still-in : (n : ℕ) (b : Bid) → isIn o b ≡ true → isIn o (record { rate = b .rate; amount = suc n }) ≡ true
   unfolding isIn

@@ -8,13 +8,11 @@ use native.Mathlib.Omega.{arith}
 use lib.Dec.{leb, ltb}
 use lib.ListN.{length, getD}
 use borrow.Author.Tests.{leb-false}
-use Rattle.laws.proofs.Tests.{and-left}
 use Rattle.rules.specs.Allotment.{
   Bid,
   noBid,
   filled,
   Offer,
-  betterRate,
   isIn,
   isEqual,
   keep,
@@ -28,18 +26,15 @@ use Rattle.rules.specs.Allotment.{
   awards,
 }
 use Rattle.rules.proofs.Division.{share-is}
+use Rattle.rules.proofs.Filled.{in-filled}
 
-cent-le : (before cents : ℕ) → cent before cents ≤ 1
+pub cent-le : (before cents : ℕ) → cent before cents ≤ 1
 unfolding cent
 cent-le before cents = go (ltb before cents)
   where
     go : (t : Bool) → cond t 1 0 ≤ 1
     go true = omega arith
     go false = omega arith
-
-in-filled : (o : Offer) (b : Bid) → isIn o b ≡ true → filled b ≡ true
-unfolding isIn
-in-filled o b h = and-left (filled b) (not (betterRate (o .side) (o .limit) (b .rate))) h
 
 module _ (o : Offer) (bs : List Bid) where
   -- with B < Q < B + E the share is under the amount, so that a cent fits

@@ -1,5 +1,6 @@
 pub mod Kept
 pub mod Rates
+pub mod Filled
 pub mod ByRates
 pub mod Best
 pub mod Division
