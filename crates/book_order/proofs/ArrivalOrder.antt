@@ -20,7 +20,7 @@ use Rattle.optes_book.specs.Interface.{marginalNumbers, awardsTold, marginalTol
 use Rattle.optes_book.proofs.Calls.{told-all}
 use Rattle.book_order.specs.ArrivalOrder.{ReceivesAll, no-more, and-next, Run, finalAllotment, ArrivalOrderFromC}
 
--- no condition of opening has the number zero
+-- no condition has the number zero
 unfoldable pub numbered : List (ℕ × Bool) → Bool
 numbered [] = true
 numbered ((zero, b) ∷ conditions) = false
@@ -49,27 +49,24 @@ opening-accepted m a e =
     ∷ [])
     refl e
 
+-- a call that tests what it is lent and returns 0, not 100, found it fit, and the number that it tells then is 0
+pub zero-returned : {A : Type 0} (number : A → ℕ) (fit : Bool) (x y : A)
+    → number y ≡ 100
+    → 0 ≡ number (cond fit x y)
+    → (fit ≡ true) × (number x ≡ 0)
+zero-returned number true x y unfit e = (refl, sym e)
+zero-returned number false x y unfit e = absurd (omega (arith, e, unfit))
+
 -- an opening that returns 0 had room and is not refused
 module _ (ws m : List ℕ) (a : Admission) (first : List ℕ) (opens : Opens ws m a 0 first) where
-  abbrev answer : Bool → ℕ
-  answer b = cond b (orZero (openingRefused m a)) 100
-
-  opened-number : (b : Bool) (told : List ℕ) → cond {A = ℕ × List ℕ} b (orZero (openingRefused m a), told) (100, ws) .0 ≡ answer b
-  opened-number true told = refl
-  opened-number false told = refl
-
-  room-then : (b : Bool) → 0 ≡ answer b → b ≡ true
-  room-then true e = refl
-  room-then false e = absurd (omega (arith, e))
-
-  zero-is : 0 ≡ answer (leb tenderWords (length ws))
-  zero-is = ap (λ (p : ℕ × List ℕ). p .0) (opens .equal) ∙ opened-number (leb tenderWords (length ws)) _
+  zero-opened : (leb tenderWords (length ws) ≡ true) × (orZero (openingRefused m a) ≡ 0)
+  zero-opened = zero-returned (λ (p : ℕ × List ℕ). p .0) (leb tenderWords (length ws)) _ _ refl (ap (λ (p : ℕ × List ℕ). p .0) (opens .equal))
 
   roomy : leb tenderWords (length ws) ≡ true
-  roomy = room-then (leb tenderWords (length ws)) zero-is
+  roomy = zero-opened .0
 
   pub accepted : openingRefused m a ≡ none
-  accepted = opening-accepted m a (sym (zero-is ∙ ap answer roomy))
+  accepted = opening-accepted m a (zero-opened .1)
 
 -- the words stay a tender, and the tender of the rules
 received-all : {ws last : List ℕ} {rs : List Reception} → isTender ws ≡ true → ReceivesAll ws rs last → (isTender last ≡ true) × (tenderIn last ≡ receiveAll (tenderIn ws) rs)

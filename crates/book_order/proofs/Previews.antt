@@ -1,22 +1,19 @@
 -- What a preview from C foretells: the theorems of the rules, carried over the contracts. Assumes nothing.
 use mathlib.Core.Path.{_≡_, refl, sym, ap, _∙_}
-use mathlib.Core.Bool.{Bool, true, false, cond}
+use mathlib.Core.Bool.{true}
 use mathlib.Core.List.{List, [], _∷_}
 use mathlib.Core.Option.{Option, none}
 use Prim.Native.Nat.{ℕ}
-use native.Mathlib.Omega.{arith}
-use lib.ListN.{set}
-use Rattle.envelope.specs.Refusals.{unlessRefused, orZero}
+use Rattle.envelope.specs.Refusals.{orZero}
 use Rattle.rules.specs.Calls as rules
 use Rattle.rules.specs.Calls.{isRevoked, isOver, clockInvalid, beforeCutOff, closingRefused, close}
 use Rattle.rules.specs.Previews.{answered}
 use Rattle.rules.proofs.Previews.{preview-foretells, preview-of-receptions}
 use Rattle.buffer.specs.Words.{tenderIn, isTender}
-use Rattle.optes_book.specs.Interface.{ifTender, awardsTold, marginalTold, Changes, Previews}
+use Rattle.optes_book.specs.Interface.{awardsTold, marginalTold, Changes, Previews}
 use Rattle.optes_book.proofs.Calls.{told-all}
-use Rattle.book_order.specs.ArrivalOrder.{finalAllotment}
 use Rattle.book_order.specs.Previews.{PreviewForetellsFromC, PreviewOfReceptionsFromC}
-use Rattle.book_order.proofs.ArrivalOrder.{numbered, none-holds, accepted, received-tender}
+use Rattle.book_order.proofs.ArrivalOrder.{numbered, none-holds, zero-returned, accepted, received-tender}
 
 -- what is told of an answer, in arrays that are lent
 abbrev shown : List ℕ → List ℕ → Option ℕ × rules.Allotted → ℕ × List ℕ × List ℕ
@@ -28,19 +25,11 @@ previewed-is ws awards told r awards₂ told₂ g p = p ∙ sym (told-all ws {A 
 
 -- closing that returns 0 found a tender and is not refused
 module _ (ws : List ℕ) (date time : ℕ) (after : List ℕ) (closes : Changes ws (close (tenderIn ws) date time) 1 0 after) where
-  number : ℕ
-  number = orZero (close (tenderIn ws) date time .0)
-
-  given-then : (b : Bool) (told : List ℕ) → 0 ≡ cond {A = ℕ × List ℕ} b (number, told) (100, ws) .0 → (b ≡ true) × (number ≡ 0)
-  given-then true told e = (refl, sym e)
-  given-then false told e = absurd (omega (arith, e))
-
-  found : (isTender ws ≡ true) × (number ≡ 0)
-  unfolding number
-  found = given-then (isTender ws) (unlessRefused (close (tenderIn ws) date time .0) ws (set ws 1 1)) (ap (λ (p : ℕ × List ℕ). p .0) (closes .equal))
+  found : (isTender ws ≡ true) × (orZero (close (tenderIn ws) date time .0) ≡ 0)
+  found = zero-returned (λ (p : ℕ × List ℕ). p .0) (isTender ws) _ _ refl (ap (λ (p : ℕ × List ℕ). p .0) (closes .equal))
 
   closing-accepted : closingRefused (tenderIn ws) date time ≡ none
-  unfolding close closingRefused numbered number
+  unfolding close closingRefused numbered
   closing-accepted =
       let t = tenderIn ws in
       none-holds ((8, isRevoked (t .state)) ∷ (9, isOver (t .state)) ∷ (10, clockInvalid date time) ∷ (13, beforeCutOff (t .terms) date time) ∷ []) refl (found .1)
