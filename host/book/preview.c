@@ -1,4 +1,5 @@
-// Previews: what they give of an open and of a closed tender, where they are refused, and that they change nothing.
+// Previews: what they give of an open and of a closed tender, where they are refused, that they change nothing, and
+// that a bid which is raised moves no other award by more than that.
 // What they give with credit limits, in LA, of shares and without a marginal rate is held to each allotment of
 // limits.c and ending.c, by ended; words that no call left are in damage.c.
 #include <string.h>
@@ -112,10 +113,50 @@ static void many_receptions(const struct desk *d)
     after_each(d, "NC/FD/LA/R/Y/VR/MR", limits);
 }
 
+// How many awards differ between two previews, but for that of one place: each by no more than this.
+static size_t others_moved(const struct optes_allotment *a, const struct optes_allotment *b, size_t place, uint64_t most)
+{
+    size_t moved = 0;
+    for (size_t k = 0; k < OPTES_BOOK_PLACES; k++) {
+        const uint64_t x = a->awards[k], y = b->awards[k];
+        if (k == place || x == y)
+            continue;
+        CHECK((x < y ? y - x : x - y) <= most);
+        moved++;
+    }
+    return moved;
+}
+
+// A tender without limits on this side, in which one bid of every application is raised by a second application: no
+// other award moves by more than that, and some move. The rates are so much lower that most bids are in.
+static void raises(const struct desk *d, const char *operation, uint64_t lower)
+{
+    struct optes_book b = opened_with(d, A_OPERATION, operation);
+    struct bid bids[3];
+    size_t moved = 0;
+    for (uint64_t k = 0; k < 29; k++) {
+        const size_t count = some_bids(bids, k);
+        for (size_t i = 0; i < count; i++)
+            bids[i].rate -= lower;
+        confirmed_bids(d, &b, codes[k % CODES], 102900 + 2 * k, bids, count);
+        if (count == 0)
+            continue;
+        const struct optes_allotment before = previewed(d, &b);
+        const uint64_t more = 10000 * (1 + k % 5);
+        bids[k % count].amount += more;
+        confirmed_bids(d, &b, codes[k % CODES], 102901 + 2 * k, bids, count);
+        const struct optes_allotment after = previewed(d, &b);
+        moved += others_moved(&before, &after, OPTES_BOOK_CODE_PLACES * (k % CODES) + k % count, more);
+    }
+    CHECK(moved > 0);
+}
+
 void preview_cases(const struct desk *d)
 {
     worked_session(d);
     cancels(d);
     refusals(d);
     many_receptions(d);
+    raises(d, "NC/FD/LP/R/Y/VR/MR", 0);
+    raises(d, "NC/FD/LA/R/Y/VR/MR", 5000);
 }
