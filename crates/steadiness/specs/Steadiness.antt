@@ -30,7 +30,7 @@ SteadyWithin bound =
     -- 'Every other bid's award'
     → (k : ℕ)
     → (k ≡ place → ⊥)
-    -- 'then differs by at most' the bound 'between the two'
+    -- 'then differs by at most' the bound 'between the two': the award before any later step
     → DifferByAtMost (bound d) (getD (awards o bs) k 0) (getD (awards o (raisedAt place d bs)) k 0)
 
 -- 'by at most d + 1 eurocents'
