@@ -135,6 +135,12 @@ pub fn name(side: Side) -> &'static str {
     }
 }
 
+/// Those of the entries that were not seen.
+pub fn unseen<T, const N: usize>(entries: [T; N], seen: [bool; N]) -> impl Iterator<Item = T> {
+    let entries = entries.into_iter().zip(seen);
+    entries.filter(|(_, is_seen)| !is_seen).map(|(entry, _)| entry)
+}
+
 /// Which kinds of bids and what of the marginal rate was seen.
 pub struct Shown {
     kinds: [bool; KINDS],
@@ -173,10 +179,8 @@ impl Shown {
         let kinds = kinds.filter(Kind::is_possible);
         let mut missing: Vec<String> = kinds.map(|kind| kind.to_string()).collect();
         for side in SIDES {
-            let marginals = MARGINALS.into_iter().zip(self.marginals[side as usize]);
-            let unseen = marginals.filter(|(_, is_seen)| !is_seen);
-            let text = |(marginal, _)| format!("{}, marginal rate {marginal:?}", name(side));
-            missing.extend(unseen.map(text));
+            let text = |marginal| format!("{}, marginal rate {marginal:?}", name(side));
+            missing.extend(unseen(MARGINALS, self.marginals[side as usize]).map(text));
         }
         missing
     }

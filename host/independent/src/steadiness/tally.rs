@@ -1,7 +1,7 @@
 //! How far other awards moved in the pairs that were compared.
 
 use crate::award::Rate;
-use crate::steadiness::shown::{name, Shown, SIDES};
+use crate::steadiness::shown::{name, unseen, Shown, SIDES};
 use crate::steadiness::{Beside, Pair};
 
 /// The rates from which a raised bid can move another award by all of d.
@@ -57,10 +57,8 @@ impl Tally {
     pub fn missing(&self) -> Vec<String> {
         let mut missing = Vec::new();
         for side in SIDES {
-            let moving = MOVING.into_iter().zip(self.reached[side as usize]);
-            let unreached = moving.filter(|(_, is_reached)| !is_reached);
-            let text = |(rate, _)| format!("{}, an award moved by d from {rate}", name(side));
-            missing.extend(unreached.map(text));
+            let text = |rate| format!("{}, an award moved by d from {rate}", name(side));
+            missing.extend(unseen(MOVING, self.reached[side as usize]).map(text));
         }
         missing
     }
