@@ -24,9 +24,9 @@ all_default n i a = go (ltb i n) refl
     go false e = get_or-eq_default (replicate n a) a (omega (arith, ltb-false i n e, length-replicate n a))
 
 -- at most 64, and at most the number
-pub upTo64_small : (n : ℕ) → (up_to64 n ≤ 64) × (up_to64 n ≤ n)
+pub up_to64_small : (n : ℕ) → (up_to64 n ≤ 64) × (up_to64 n ≤ n)
 unfolding up_to64
-upTo64_small n = go (ltb n 64) refl
+up_to64_small n = go (ltb n 64) refl
   where
     go : (t : Bool) → ltb n 64 ≡ t → (up_to64 n ≤ 64) × (up_to64 n ≤ n)
     go true e = rw e (omega (arith, ltb-true n 64 e), omega arith)
@@ -61,9 +61,9 @@ module _ (codes : List ℕ) (n : ℕ) (limits : List ℕ) where
   new_entries i (suc d) h = rw (drop-cons codes i 0 (omega arith)) (λ t. new_entry_lem i t ∷ new_entries (suc i) d (omega arith) t)
 
 -- a number at most 64 stays
-pub upTo64_stays : (n : ℕ) → n ≤ 64 → up_to64 n ≡ n
+pub up_to64_stays : (n : ℕ) → n ≤ 64 → up_to64 n ≡ n
 unfolding up_to64
-upTo64_stays n h = go (ltb n 64) refl
+up_to64_stays n h = go (ltb n 64) refl
   where
     go : (t : Bool) → ltb n 64 ≡ t → up_to64 n ≡ n
     go true e = rw e
@@ -82,7 +82,7 @@ pub viewed_empty : (codes kept old limits : List ℕ) (n i : ℕ) → n ≡ up_t
     → viewed (empty_book kept n limits) ≡ new_book (take 64 codes)
 unfolding viewed new_book
 viewed_empty codes kept old limits n i e len end k' =
-    ap (entries_from (empty_book kept n limits) 0) (upTo64_stays n small.0)
+    ap (entries_from (empty_book kept n limits) 0) (up_to64_stays n small.0)
     ∙ new_entries kept n limits 0 n (omega (arith, filled, small.0))
     ∙ ap (map new_entry) (ap (take n) k ∙ take_at (take n codes) (drop n old) n taken ∙ ap (λ (m : ℕ). take m codes) e ∙ first_64 codes)
   where
@@ -90,7 +90,7 @@ viewed_empty codes kept old limits n i e len end k' =
     k = k' ∙ ap (λ (m : ℕ). take m codes ++ drop m old) end
 
     small : (n ≤ 64) × (n ≤ length codes)
-    small = rw e (upTo64_small (length codes))
+    small = rw e (up_to64_small (length codes))
 
     taken : length (take n codes) ≡ n
     taken = length-take-le n codes small.1
@@ -121,13 +121,13 @@ first_stored limits kept n i e end k =
     let all : i ≡ up_to64 (length limits) = end ∙ e in
     k
     ∙ ap (λ (m : ℕ). take m limits ++ drop m (replicate 64 0)) all
-    ∙ ap₂ (λ (x y : List ℕ). x ++ y) (first_64 limits) (zeros_after (up_to64 (length limits)) 64 (upTo64_small (length limits)).0 ∙ ap (λ (m : ℕ). replicate {A = ℕ} m 0) (left_of_64 (length limits)))
+    ∙ ap₂ (λ (x y : List ℕ). x ++ y) (first_64 limits) (zeros_after (up_to64 (length limits)) 64 (up_to64_small (length limits)).0 ∙ ap (λ (m : ℕ). replicate {A = ℕ} m 0) (left_of_64 (length limits)))
 
 -- as many limits as codes are kept whole
 pub limits-whole : (limits : List ℕ) (n : ℕ) → length limits ≡ n → n ≤ 64 → take (up_to64 n) (first64 limits) ≡ limits
 unfolding first64
 limits-whole limits n e h =
-    ap (λ (m : ℕ). take m (take 64 limits ++ replicate (64 - length limits) 0)) (upTo64_stays n h)
+    ap (λ (m : ℕ). take m (take 64 limits ++ replicate (64 - length limits) 0)) (up_to64_stays n h)
     ∙ ap (λ (l : List ℕ). take n (l ++ replicate (64 - length limits) 0)) (take_all 64 limits (omega (arith, e, h)))
     ∙ take_at limits (replicate (64 - length limits) 0) n e
 

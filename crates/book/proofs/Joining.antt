@@ -16,7 +16,7 @@ use Rattle.book.specs.declared.Book.{Book}
 use Rattle.book.specs.declared.Found.{Found}
 use Rattle.book.specs.declared.Found.TheVariants.{At, Absent}
 use Rattle.book.specs.Viewed.{held_at, entry_at, entries_from, up_to64, viewed, find_from, is_at, index_of, replaced, codes_in, held_in, accepted}
-use Rattle.book.proofs.Empty.{upTo64_small}
+use Rattle.book.proofs.Empty.{up_to64_small}
 
 -- what a search can answer
 at_same : (i k : ℕ) → At i ≡ At k → i ≡ k
@@ -139,7 +139,7 @@ unfolding viewed
 found_below b c i f =
     let w = (found_within (entries_from b 0 (up_to64 b.n)) c 0 i f).1 in
     let l = length-entries b 0 (up_to64 b.n) in
-    let s = (upTo64_small b.n).0 in
+    let s = (up_to64_small b.n).0 in
     (omega arith, omega arith)
 
 pub index_below : (b : Book) (c : ℕ) (found : Found) → found ≡ find_from (viewed b) c 0 → index_of found < 64

@@ -13,7 +13,7 @@ use Rattle.bids.specs.Columns.{bids_from, bids_of, cents}
 use Rattle.bids.proofs.Columns.{bids_add, bids_shifted}
 use Rattle.book.specs.declared.Book.{Book}
 use Rattle.book.specs.Viewed.{hundred_thousandths, entry_at, entries_from, up_to64, viewed, codes_in}
-use Rattle.book.proofs.Empty.{upTo64_small}
+use Rattle.book.proofs.Empty.{up_to64_small}
 
 bids-nothing : (rs : List Rate) (xs : List Amount) (i : ℕ) → bids_from rs xs i (10 * zero) ≡ []
 unfolding bids_from
@@ -47,7 +47,7 @@ codes-first b i (suc d) r = ap (λ (l : List ℕ). get_or b.codes i 0 ∷ l) (co
 -- the codes of a book's entries are its first ones
 pub codes-viewed : (b : Book) → length b.codes ≡ 64 → codes_in (viewed b) ≡ take (up_to64 b.n) b.codes
 unfolding viewed
-codes-viewed b h = codes-first b 0 (up_to64 b.n) (omega (arith, h, (upTo64_small b.n).0))
+codes-viewed b h = codes-first b 0 (up_to64 b.n) (omega (arith, h, (up_to64_small b.n).0))
 
 -- the first n places as rates and amounts side by side
 side_by_side : (n : ℕ) (rs : List Rate) (xs : List Amount) → n ≤ length rs → n ≤ length xs → bids_of (take n (map hundred_thousandths rs)) (take n (map cents xs)) ≡ bids_from rs xs 0 n
@@ -61,7 +61,7 @@ side_by_side (suc n) (r ∷ rs) (x ∷ xs) h k = ap (λ (l : List Bid). record {
 pub bids-numbered : (b : Book) → length b.rates ≡ 640 → length b.amounts ≡ 640
     → bids_of (take (10 * up_to64 b.n) (map hundred_thousandths b.rates)) (take (10 * up_to64 b.n) (map cents b.amounts)) ≡ bids_in_book (viewed b)
 bids-numbered b hr hx =
-    let s = (upTo64_small b.n).0 in
+    let s = (up_to64_small b.n).0 in
     side_by_side (10 * up_to64 b.n) b.rates b.amounts (omega (arith, s, hr)) (omega (arith, s, hx)) ∙ sym (bids-viewed b)
 
 -- a list there and back is what it was

@@ -20,19 +20,19 @@ use Rattle.book.specs.Viewed.{held_at, entry_at, entries_from, up_to64, viewed, 
 use Rattle.book.proofs.Mapped.{mapped_at}
 
 module _ {A : Type 0} where
-  pub getD_sets_low : (l : List A) (i : ℕ) (vs : List A) (p : ℕ) (d : A) → p < i → get_or (sets l i vs) p d ≡ get_or l p d
-  getD_sets_low l i [] p d h = refl
-  getD_sets_low l i (v ∷ vs) p d h = getD_sets_low (set l i v) (suc i) vs p d (omega arith) ∙ get_or-set_other l i p v d (omega arith)
+  pub get_or_sets_low : (l : List A) (i : ℕ) (vs : List A) (p : ℕ) (d : A) → p < i → get_or (sets l i vs) p d ≡ get_or l p d
+  get_or_sets_low l i [] p d h = refl
+  get_or_sets_low l i (v ∷ vs) p d h = get_or_sets_low (set l i v) (suc i) vs p d (omega arith) ∙ get_or-set_other l i p v d (omega arith)
 
-  getD_sets_high : (l : List A) (i : ℕ) (vs : List A) (p : ℕ) (d : A) → i + length vs ≤ p → get_or (sets l i vs) p d ≡ get_or l p d
-  getD_sets_high l i [] p d h = refl
-  getD_sets_high l i (v ∷ vs) p d h = getD_sets_high (set l i v) (suc i) vs p d (omega arith) ∙ get_or-set_other l i p v d (omega arith)
+  get_or_sets_high : (l : List A) (i : ℕ) (vs : List A) (p : ℕ) (d : A) → i + length vs ≤ p → get_or (sets l i vs) p d ≡ get_or l p d
+  get_or_sets_high l i [] p d h = refl
+  get_or_sets_high l i (v ∷ vs) p d h = get_or_sets_high (set l i v) (suc i) vs p d (omega arith) ∙ get_or-set_other l i p v d (omega arith)
 
-  getD_sets_in : (l : List A) (i : ℕ) (vs : List A) (j : ℕ) (d : A) → j < length vs → i + length vs ≤ length l → get_or (sets l i vs) (i + j) d ≡ get_or vs j d
-  getD_sets_in l i [] j d h k = absurd (let z : ◌≡◌ {A = ℕ} 0 1 = omega arith in omega arith)
-  getD_sets_in l i (v ∷ vs) zero d h k = rw (add-zero i) (getD_sets_low (set l i v) (suc i) vs i d (omega arith) ∙ get_or-set_same l i v d (omega arith))
-  getD_sets_in l i (v ∷ vs) (suc j) d h k =
-      ap (λ (n : ℕ). get_or (sets (set l i v) (suc i) vs) n d) next ∙ getD_sets_in (set l i v) (suc i) vs j d (omega arith) (omega (arith, length-set l i v))
+  get_or_sets_in : (l : List A) (i : ℕ) (vs : List A) (j : ℕ) (d : A) → j < length vs → i + length vs ≤ length l → get_or (sets l i vs) (i + j) d ≡ get_or vs j d
+  get_or_sets_in l i [] j d h k = absurd (let z : ◌≡◌ {A = ℕ} 0 1 = omega arith in omega arith)
+  get_or_sets_in l i (v ∷ vs) zero d h k = rw (add-zero i) (get_or_sets_low (set l i v) (suc i) vs i d (omega arith) ∙ get_or-set_same l i v d (omega arith))
+  get_or_sets_in l i (v ∷ vs) (suc j) d h k =
+      ap (λ (n : ℕ). get_or (sets (set l i v) (suc i) vs) n d) next ∙ get_or_sets_in (set l i v) (suc i) vs j d (omega arith) (omega (arith, length-set l i v))
     where
       next : i + suc j ≡ suc i + j
       next = omega arith
@@ -59,7 +59,7 @@ bids_in_lem : (rs vs : List Rate) (xs ws : List Amount) (i j d : ℕ) → j + d 
 unfolding bids_from
 bids_in_lem rs vs xs ws i j zero hv hw hr hx = refl
 bids_in_lem rs vs xs ws i j (suc d) hv hw hr hx =
-    λ t. record { rate = (getD_sets_in rs i vs j no_rate (omega arith) hr t).0; amount = (getD_sets_in xs i ws j no_amount (omega arith) hx t).0 }
+    λ t. record { rate = (get_or_sets_in rs i vs j no_rate (omega arith) hr t).0; amount = (get_or_sets_in xs i ws j no_amount (omega arith) hx t).0 }
     ∷ (ap (λ (n : ℕ). bids_from (sets rs i vs) (sets xs i ws) n d) next ∙ bids_in_lem rs vs xs ws i (suc j) d (omega arith) (omega arith) hr hx) t
   where
     next : suc (i + j) ≡ i + suc j
@@ -69,14 +69,14 @@ bids_low : (rs vs : List Rate) (xs ws : List Amount) (i p d : ℕ) → p + d ≤
 unfolding bids_from
 bids_low rs vs xs ws i p zero h = refl
 bids_low rs vs xs ws i p (suc d) h =
-    λ t. record { rate = (getD_sets_low rs i vs p no_rate (omega arith) t).0; amount = (getD_sets_low xs i ws p no_amount (omega arith) t).0 }
+    λ t. record { rate = (get_or_sets_low rs i vs p no_rate (omega arith) t).0; amount = (get_or_sets_low xs i ws p no_amount (omega arith) t).0 }
     ∷ bids_low rs vs xs ws i (suc p) d (omega arith) t
 
 bids_high : (rs vs : List Rate) (xs ws : List Amount) (i p d : ℕ) → i + length vs ≤ p → i + length ws ≤ p → bids_from (sets rs i vs) (sets xs i ws) p d ≡ bids_from rs xs p d
 unfolding bids_from
 bids_high rs vs xs ws i p zero h k = refl
 bids_high rs vs xs ws i p (suc d) h k =
-    λ t. record { rate = (getD_sets_high rs i vs p no_rate h t).0; amount = (getD_sets_high xs i ws p no_amount k t).0 }
+    λ t. record { rate = (get_or_sets_high rs i vs p no_rate h t).0; amount = (get_or_sets_high xs i ws p no_amount k t).0 }
     ∷ bids_high rs vs xs ws i (suc p) d (omega arith) (omega arith) t
 
 -- the arrays with a time at index k, and other rates and amounts

@@ -14,7 +14,7 @@ use Rattle.bids.specs.Columns.{cents, bids_from}
 use Rattle.book.specs.Viewed.{hundred_thousandths, amount_of, viewed, codes_in, limits_in, replaced}
 use Rattle.book.proofs.Joining.{replaced-codes}
 use Rattle.book.proofs.Order.{there_and_back}
-use Rattle.book.proofs.Storing.{stored, viewed_stored, getD_sets_low}
+use Rattle.book.proofs.Storing.{stored, viewed_stored, get_or_sets_low}
 use Rattle.terms.specs.Viewed as terms
 use Rattle.refusals.specs.Conditions.{state_of}
 use Rattle.buffer.specs.Words.{tender_words, part, stored_rate, state_in, book_in, tender_in, is_tender, holding}
@@ -52,8 +52,8 @@ module _ (ws : List ℕ) (long : tender_words ≤ length ws) (at time : ℕ) (ra
   word_stays : (i : ℕ) → i < 88 → get_or (holding ws at time rates amounts) i 0 ≡ get_or ws i 0
   unfolding holding
   word_stays i h =
-      getD_sets_low rated (856 + 10 * at) xs i 0 (omega arith)
-      ∙ getD_sets_low timed_words (216 + 10 * at) rs i 0 (omega arith)
+      get_or_sets_low rated (856 + 10 * at) xs i 0 (omega arith)
+      ∙ get_or_sets_low timed_words (216 + 10 * at) rs i 0 (omega arith)
       ∙ get_or-set_other (set ws (88 + at) time) (152 + at) i 1 0 (λ e. omega (arith, e, h))
       ∙ get_or-set_other ws (88 + at) i time 0 (λ e. omega (arith, e, h))
 

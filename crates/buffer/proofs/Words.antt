@@ -14,7 +14,7 @@ use Rattle.rules.specs.Opening.{rising}
 use Rattle.rules.specs.Calls as rules
 use Rattle.book.specs.Viewed.{amount_of, held_at, viewed, codes_in}
 use Rattle.book.proofs.Order.{codes-viewed}
-use Rattle.book.proofs.Empty.{upTo64_stays}
+use Rattle.book.proofs.Empty.{up_to64_stays}
 use Rattle.book.proofs.Mapped.{mapped_at}
 use Rattle.book.proofs.Storing.{Sized, stored}
 use Rattle.terms.specs.declared.Terms.{Terms}
@@ -59,7 +59,7 @@ pub codes_are : (ws : List ℕ) → Known ws → codes_in (viewed (book_in ws)) 
 unfolding book_in
 codes_are ws k =
     codes-viewed (book_in ws) (part_length ws 24 64 (omega (arith, k.long)))
-    ∙ ap (λ (n : ℕ). take n (part 24 64 ws)) (upTo64_stays (get_or ws 2 0) (omega (arith, k.few-codes)))
+    ∙ ap (λ (n : ℕ). take n (part 24 64 ws)) (up_to64_stays (get_or ws 2 0) (omega (arith, k.few-codes)))
 
 pub codes_rise : (ws : List ℕ) → Known ws → rising (codes_in (viewed (book_in ws))) ≡ true
 codes_rise ws k = ap rising (codes_are ws k) ∙ k.rises

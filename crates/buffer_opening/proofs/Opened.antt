@@ -13,7 +13,7 @@ use Rattle.announcement.specs.declared.Side.TheVariants.{La, Lp}
 use Rattle.rules.specs.Opening.{Admission, rising}
 use Rattle.rules.specs.Receiving.{new_book}
 use Rattle.book.specs.Viewed.{rate_of, amount_of, viewed, limits_in}
-use Rattle.book.proofs.Empty.{empty_book, viewed_empty, new_whole, upTo64_stays, zeros_after}
+use Rattle.book.proofs.Empty.{empty_book, viewed_empty, new_whole, up_to64_stays, zeros_after}
 use Rattle.terms.specs.declared.Terms.{Terms}
 use Rattle.buffer.specs.Words.{tender_words, form_number, part, byte_in, low32, stored_rate, side_in, side_number, terms_in, book_in, is_tender, terms_numbers}
 use Rattle.buffer.proofs.Words.{terms_from, terms_from_lem}
@@ -176,13 +176,13 @@ module _ (t : Terms) (narrow : Narrow t) (long : length t.identifier ≡ 11) whe
     entries-read =
         let n = length codes in
         let stored : kept codes past few ≡ take n codes ++ drop n (zeros 64) = sym (ap₂ (λ (x y : List ℕ). x ++ y) (take_all n codes (omega arith)) (zeros_after n 64 few)) in
-        ap viewed book-read ∙ viewed_empty codes (kept codes past few) (zeros 64) limited n n (sym (upTo64_stays n few)) (length-replicate {A = ℕ} 64 0) refl stored ∙ new_whole codes few
+        ap viewed book-read ∙ viewed_empty codes (kept codes past few) (zeros 64) limited n n (sym (up_to64_stays n few)) (length-replicate {A = ℕ} 64 0) refl stored ∙ new_whole codes few
 
     -- the limits of the tender are those that it was opened with
     pub limits-read : limits_in (book_in opened) ≡ a.limits
     limits-read =
         ap limits_in book-read
-        ∙ ap (λ (n : ℕ). take n limited) (upTo64_stays (length codes) few)
+        ∙ ap (λ (n : ℕ). take n limited) (up_to64_stays (length codes) few)
         ∙ take_at a.limits (zeros (64 - length a.limits)) (length codes) counted
 
     opened_long : length (opened_numbers t a) ≡ tender_words

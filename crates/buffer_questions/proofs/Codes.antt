@@ -13,7 +13,7 @@ use Rattle.output.specs.Output.{Wrote}
 use Rattle.output.proofs.Output.{from_start}
 use Rattle.rules.specs.Opening.{rising}
 use Rattle.book.specs.Viewed.{limits_in}
-use Rattle.book.proofs.Empty.{upTo64_stays, zeros_after}
+use Rattle.book.proofs.Empty.{up_to64_stays, zeros_after}
 use Rattle.buffer.specs.Words.{tender_words, part, book_in}
 use Rattle.buffer.proofs.Words.{Known}
 use Rattle.buffer_opening.proofs.Opened.{zeros}
@@ -89,4 +89,4 @@ column_told ws from k room w =
 -- the limits of the tender are the first of their part
 pub limits_are : (ws : List ℕ) → Known ws → limits_in (book_in ws) ≡ take (get_or ws 2 0) (part 1496 64 ws)
 unfolding book_in
-limits_are ws k = ap (λ (n : ℕ). take n (part 1496 64 ws)) (upTo64_stays (get_or ws 2 0) (omega (arith, k.few-codes)))
+limits_are ws k = ap (λ (n : ℕ). take n (part 1496 64 ws)) (up_to64_stays (get_or ws 2 0) (omega (arith, k.few-codes)))

@@ -15,7 +15,7 @@ use Rattle.rules.specs.Receiving.{Entry}
 use Rattle.rules.specs.Calls.{Tender, Allotted, bids_in_book}
 use Rattle.bids.specs.Columns.{bids_of}
 use Rattle.book.specs.Viewed.{up_to64, viewed, codes_in}
-use Rattle.book.proofs.Empty.{upTo64_stays}
+use Rattle.book.proofs.Empty.{up_to64_stays}
 use Rattle.book.proofs.Order.{codes-viewed}
 use Rattle.marginal.specs.Ranks.{rate_in}
 use Rattle.refusals.specs.Conditions.{is_some, refusal_number}
@@ -75,7 +75,7 @@ module _ (ws : List ℕ) (given : is_tender ws ≡ true) where
   n = get_or ws 2 0
 
   pub count : up_to64 (get_or ws 2 0) ≡ get_or ws 2 0
-  count = let k = (known ws given).few-codes in upTo64_stays n (omega (arith, k))
+  count = let k = (known ws given).few-codes in up_to64_stays n (omega (arith, k))
 
   pub codes_there : codes_in (viewed (book_in ws)) ≡ take (24 + n - 24) (drop 24 ws)
   unfolding book_in

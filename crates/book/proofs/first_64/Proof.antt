@@ -6,7 +6,7 @@ use native.Mathlib.Omega.{arith}
 use lib.ListN.{length, take, drop, replicate, length-replicate}
 use Rattle.laws.proofs.Arrays.{fill_more}
 use Rattle.book.specs.Viewed.{up_to64}
-use Rattle.book.proofs.Empty.{upTo64_small, first_stored}
+use Rattle.book.proofs.Empty.{up_to64_small, first_stored}
 use Rattle.book.proofs.first_64.Statement.{statement}
 use Rattle.book.proofs.first_64.Tie as tie
 
@@ -23,7 +23,7 @@ up-to-64-requires c κs = tt
 loop-holds : tie.Need-loop-init invariant-loop decreases-loop
 loop-holds c =
     let e = c.up-to-64.ensures in
-    let s = upTo64_small (length c.before.before.args.limits.now) in
+    let s = up_to64_small (length c.before.before.args.limits.now) in
     (omega arith, omega (arith, e, s.0), omega (arith, e, s.1), e, refl)
 
 mul-kept : tie.Need-overflow-mul-kept invariant-loop decreases-loop

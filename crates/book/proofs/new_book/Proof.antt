@@ -6,7 +6,7 @@ use native.Mathlib.Omega.{arith}
 use lib.ListN.{length, take, drop, replicate}
 use Rattle.laws.proofs.Arrays.{fill_more}
 use Rattle.book.specs.Viewed.{up_to64}
-use Rattle.book.proofs.Empty.{upTo64_small, upTo64_stays, viewed_empty}
+use Rattle.book.proofs.Empty.{up_to64_small, up_to64_stays, viewed_empty}
 use Rattle.book.proofs.new_book.Statement.{statement}
 use Rattle.book.proofs.new_book.Tie as tie
 
@@ -23,7 +23,7 @@ up-to-64-requires c κs = tt
 loop-holds : tie.Need-loop-init invariant-loop decreases-loop
 loop-holds c =
     let e = c.up-to-64.ensures in
-    let s = upTo64_small (length c.before.before.before.args.codes.now) in
+    let s = up_to64_small (length c.before.before.before.args.codes.now) in
     (omega arith, omega (arith, e, s.0), omega (arith, e, s.1), e, refl, refl)
 
 mul-kept : tie.Need-overflow-mul-kept invariant-loop decreases-loop
@@ -57,7 +57,7 @@ returns c =
     let l = c.before.before.loop in
     let codes = c.before.before.before.before.before.before.args.codes.now in (
       viewed_empty codes l.auto (replicate 64 0) c.first_64.result _ l.i l.invariant.3 l.invariant.4 (omega arith) l.invariant.5,
-      ap₂ take (ap up_to64 l.invariant.3 ∙ upTo64_stays (up_to64 (length codes)) (upTo64_small (length codes)).0) c.first_64.ensures,
+      ap₂ take (ap up_to64 l.invariant.3 ∙ up_to64_stays (up_to64 (length codes)) (up_to64_small (length codes)).0) c.first_64.ensures,
     )
 
 pub new_book_spec : {M : Type 1} → statement M

@@ -7,7 +7,7 @@ use native.Mathlib.Nat.{sub-zero}
 use lib.ListN.{length, get_or}
 use Rattle.book.specs.declared.Book.{Book}
 use Rattle.book.specs.Viewed.{entries_from, up_to64, viewed, find_from}
-use Rattle.book.proofs.Empty.{upTo64_small}
+use Rattle.book.proofs.Empty.{up_to64_small}
 use Rattle.book.proofs.Finding.{find_hit, find_miss, find_end}
 use Rattle.book.proofs.internal.find_in.Statement.{statement}
 use Rattle.book.proofs.internal.find_in.Tie as tie
@@ -30,7 +30,7 @@ loop-holds c =
     let s = start.args in
     let e = c.up-to-64.ensures in (
       omega arith,
-      omega (arith, e, (upTo64_small s.n).0),
+      omega (arith, e, (up_to64_small s.n).0),
       start.requires,
       λ b h k. ap (λ (n : ℕ). find_from (entries_from b 0 n) s.code 0) (sub-zero _ ∙ e ∙ ap up_to64 (sym k)),
     )

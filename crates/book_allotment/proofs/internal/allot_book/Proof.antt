@@ -9,7 +9,7 @@ use Rattle.laws.proofs.Arrays.{length_mapped}
 use Rattle.bids.specs.Columns.{bids_of, cents}
 use Rattle.rules.specs.Calls.{bids_in_book}
 use Rattle.book.specs.Viewed as book
-use Rattle.book.proofs.Empty.{upTo64_small}
+use Rattle.book.proofs.Empty.{up_to64_small}
 use Rattle.book.proofs.Order.{bids-numbered, there_and_back}
 use Rattle.marginal.specs.Ranks.{rate_in}
 use Rattle.refusals.specs.Conditions.{refusal_number}
@@ -35,7 +35,7 @@ start c = c.before.before.before.before.before.before
 
 -- at most 64 codes, and ten places for each
 few-codes : (c : tie.After-up-to-64) → c.up-to-64.result ≤ 64
-few-codes c = omega (arith, c.up-to-64.ensures, (upTo64_small (start c).args.book.n).0)
+few-codes c = omega (arith, c.up-to-64.ensures, (up_to64_small (start c).args.book.n).0)
 
 few : (c : tie.After-up-to-64) → 10 * c.up-to-64.result ≤ 640
 few c = let e = few-codes c in omega (arith, e)

@@ -6,7 +6,7 @@ use Prim.Native.Nat.{ℕ, ◌+◌, ◌*◌, ◌-◌, ◌≤◌}
 use native.Mathlib.Omega.{arith}
 use lib.ListN.{length, take, drop, get_or, replicate, length-replicate}
 use lib.Seq.{length-take-le}
-use Rattle.book.proofs.Empty.{upTo64_small}
+use Rattle.book.proofs.Empty.{up_to64_small}
 use Rattle.terms.specs.declared.Terms.{Terms}
 use Rattle.refusals.specs.Conditions.{refusal_number}
 use Rattle.outcomes.specs.Outcomes.{viewed_of}
@@ -36,7 +36,7 @@ up-to-64-requires c κs = search rules
 
 -- at most 64 codes, and ten places for each
 few-codes : (c : tie.After-up-to-64) → c.up-to-64.result ≤ 64
-few-codes c = omega (arith, c.up-to-64.ensures, (upTo64_small (get_or (start c).args.words.now 2 0)).0)
+few-codes c = omega (arith, c.up-to-64.ensures, (up_to64_small (get_or (start c).args.words.now 2 0)).0)
 
 few : (c : tie.After-up-to-64) → 10 * c.up-to-64.result ≤ 640
 few c = let e = few-codes c in omega (arith, e)
