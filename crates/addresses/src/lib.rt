@@ -1,4 +1,6 @@
 // The address of a sender or recipient: a code of five digits, or the long form with a branch.
+#![tactic(auto)]
+
 pub mod internal;
 
 ghost use Rattle.std.specs.Prelude.{◌≡◌};
@@ -7,7 +9,7 @@ ghost use Rattle.addresses.specs.Addresses.{is_address, code_in, code_digits, br
 use digits::Digits;
 
 // What an address holds: a code, or a code, a branch and two characters; Malformed where a byte is out of place.
-#[derive(Drop)]
+#[derive(Clone, Copy)]
 pub enum Address {
     Malformed,
     Code(u64),

@@ -1,4 +1,6 @@
 // A 6G0, the announcement of a tender, read from bytes.
+#![tactic(auto)]
+
 pub mod internal;
 
 ghost use Rattle.std.specs.Prelude.{◌≡◌, true, false, [], ◌<◌, length};
@@ -18,7 +20,7 @@ use texts::same;
 use words::internal::{long_number_at, number_at};
 
 // The fields of a 6G0, in their order.
-#[derive(Drop)]
+#[derive(Clone, Copy)]
 pub enum Field {
     MessageType,
     Sender,
@@ -35,21 +37,21 @@ pub enum Field {
 }
 
 // LA: the Treasury collects. LP: it invests.
-#[derive(Drop)]
+#[derive(Clone, Copy)]
 pub enum Side {
     La,
     Lp,
 }
 
 // What field 6G1 announces: the side, and whether it says Y; or none of the types.
-#[derive(Drop)]
+#[derive(Clone, Copy)]
 pub enum Kind {
     Tender(Side, bool),
     Unknown,
 }
 
 // Field 6G2: whether it is well formed, and its numbers, which are zeros where it is not.
-#[derive(Drop)]
+#[derive(Clone, Copy)]
 pub struct Characteristics {
     pub formed: bool,
     pub execution: u64,
@@ -63,7 +65,7 @@ pub struct Characteristics {
 }
 
 // The numbers of sender, recipient, CRO, reference date and reference time.
-#[derive(Drop)]
+#[derive(Clone, Copy)]
 pub struct References {
     pub sender: Digits,
     pub recipient: Digits,
@@ -74,7 +76,7 @@ pub struct References {
 
 // What a 6G0 says: the numbers of its digit fields, whether its identifier is one, its kind and
 // its characteristics.
-#[derive(Drop)]
+#[derive(Clone, Copy)]
 pub struct Announcement {
     pub references: References,
     pub identified: bool,
@@ -85,14 +87,14 @@ pub struct Announcement {
     pub cutoff: Digits,
 }
 
-#[derive(Drop)]
+#[derive(Clone, Copy)]
 pub struct Reading {
     pub readable: bool,
     pub announcement: Announcement,
 }
 
 // What the eight parts of field 6G2 hold.
-#[derive(Drop)]
+#[derive(Clone, Copy)]
 struct Numbers {
     execution: Digits,
     most: Digits,

@@ -13,7 +13,7 @@ use Rattle.bids.proofs.Columns.{length-bids}
 use Rattle.book.specs.declared.Book.{Book}
 use Rattle.book.specs.Viewed.{entry_at, entries_from, up_to64, viewed, codes_in}
 use Rattle.buffer.specs.Words.{low32}
-use Rattle.log.specs.Lines.{place_lines, award_lines}
+use Rattle.log_rules.specs.Lines.{place_lines, award_lines}
 use Rattle.award_lines.specs.Places.{line_if_any}
 
 abbrev rate_of : Bid → ℕ

@@ -7,7 +7,7 @@ use Rattle.rules.specs.Calls.{bids_in_book}
 use Rattle.bids.specs.Columns.{bids_of}
 use Rattle.book.specs.declared.Book.{Book}
 use Rattle.book.specs.Viewed.{viewed, codes_in}
-use Rattle.log.specs.Lines.{award_line, award_lines}
+use Rattle.log_rules.specs.Lines.{award_line, award_lines}
 
 -- how a line begins: code and place
 abbrev pub award_start : ℕ → ℕ → List ℕ

@@ -1,7 +1,7 @@
 // Lines written into a lent space from an index on.
 ghost use Rattle.std.specs.Prelude.{◌≡◌, map, ◌+◌, ◌*◌, ◌≤◌, length};
 ghost use Rattle.output.specs.Output.{Wrote};
-ghost use Rattle.log.specs.Lines.{award_line};
+ghost use Rattle.log_rules.specs.Lines.{award_line};
 ghost use Rattle.buffer.specs.Words.{low32};
 ghost use Rattle.award_lines.specs.Places.{award_start, line_if_any, WritesAwards};
 

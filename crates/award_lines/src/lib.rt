@@ -1,2 +1,4 @@
 // The lines of the awards of a book.
+#![tactic(auto)]
+
 pub mod internal;

@@ -1,4 +1,6 @@
 // The checks of an application's ten bids.
+#![tactic(auto)]
+
 ghost use Rattle.std.specs.Prelude.{◌≡◌, cond, ◌-◌, ◌%◌, length};
 ghost use Rattle.rules.specs.Allotment.{filled, keep};
 ghost use Rattle.rules.specs.Opening.{any};
@@ -8,7 +10,7 @@ ghost use Rattle.bids.specs.Columns.{viewed, faulty, bids_from};
 use places::{Amount, Rate};
 
 // A rate and an amount.
-#[derive(Drop)]
+#[derive(Clone, Copy)]
 pub struct Bid {
     pub rate: Rate,
     pub amount: Amount,
@@ -105,7 +107,7 @@ pub fn count(rates: [Rate; 10], amounts: [Amount; 10]) -> u64
 }
 
 // What can be wrong with a bid: a rate that is too fine, an amount that is too small or off the increment.
-#[derive(Drop)]
+#[derive(Clone, Copy)]
 enum Fault {
     Fine,
     Small,

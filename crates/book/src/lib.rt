@@ -1,4 +1,6 @@
 // The book of a tender: what is held for each admitted code, in flat arrays.
+#![tactic(auto)]
+
 pub mod internal;
 
 ghost use Rattle.std.specs.Prelude.{◌≡◌, map, length, take};
@@ -10,7 +12,7 @@ use internal::find_in;
 use places::{Amount, Rate};
 
 // For each code the time last accepted, whether there is one, its credit limit, and ten places from ten times its index on.
-#[derive(Drop)]
+#[derive(Clone, Copy)]
 pub struct Book {
     pub codes: [u32; 64],
     pub n: usize,
@@ -22,7 +24,7 @@ pub struct Book {
 }
 
 // Where a code stands in the book, or that it does not.
-#[derive(Drop)]
+#[derive(Clone, Copy)]
 pub enum Found {
     At(usize),
     Absent,

@@ -9,7 +9,7 @@ use refusals::Refusal;
 use terms::Terms;
 
 // The awards of all places in book order and the marginal rate: zeros and none where the call is refused.
-#[derive(Drop)]
+#[derive(Clone, Copy)]
 pub struct BookAllotment {
     pub refusal: Refusal,
     pub awards: [Amount; 640],

@@ -1,4 +1,6 @@
 // A tender in a buffer of 64-bit words that its caller lends: what its words stand for.
+#![tactic(auto)]
+
 pub mod internal;
 
 ghost use Rattle.std.specs.Prelude.{◌≡◌};

@@ -1,4 +1,6 @@
 // Questions about a tender in the words of a buffer, which change none of them.
+#![tactic(auto)]
+
 pub mod internal;
 
 ghost use Rattle.std.specs.Prelude.{◌≡◌, ◌≤◌, ◌<◌, length, take};

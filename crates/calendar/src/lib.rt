@@ -1,4 +1,6 @@
 // Dates and times as numbers: ddmmyyyy and hhmmss.
+#![tactic(auto)]
+
 ghost use Rattle.std.specs.Prelude.{◌≡◌};
 ghost use Rattle.calendar.specs.Calendar.{leap_year, days_in, valid_date, valid_time, before, later};
 

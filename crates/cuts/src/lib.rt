@@ -1,4 +1,6 @@
 // Credit limits on investments: who is capped, and the bids cut to the limits.
+#![tactic(auto)]
+
 pub mod internal;
 
 ghost use Rattle.std.specs.Prelude.{◌≡◌};

@@ -1,11 +1,13 @@
 // Numbers as decimal digits in ASCII, in fields of a fixed width.
+#![tactic(auto)]
+
 pub mod internal;
 
 ghost use Rattle.std.specs.Prelude.{◌≡◌};
 ghost use Rattle.digits.specs.Decimal.{all_digits, is_number, number_in};
 
 // What a field of digits holds: its number, or none where a byte is no digit.
-#[derive(Drop)]
+#[derive(Clone, Copy)]
 pub enum Digits {
     Number(u64),
     None,

@@ -1,5 +1,7 @@
 // The share division of an allotment: an amount times what is left of the offer, divided by a total,
 // one round for each binary digit of the amount.
+#![tactic(auto)]
+
 pub mod internal;
 
 ghost use Rattle.std.specs.Prelude.{◌≡◌};
@@ -8,7 +10,7 @@ ghost use Rattle.rules.specs.Allotment.{binary_length};
 use places::Amount;
 
 // A division after some rounds: quotient, remainder and how many rounds there were.
-#[derive(Drop)]
+#[derive(Clone, Copy)]
 pub struct Division {
     pub quotient: Amount,
     pub remainder: Amount,

@@ -1,2 +1,4 @@
 // Awards below the minimum allocation, dropped.
+#![tactic(auto)]
+
 pub mod internal;

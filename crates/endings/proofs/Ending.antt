@@ -9,7 +9,7 @@ use lib.ListN.{length}
 use Rattle.digits.specs.Decimal.{all_digits}
 use Rattle.rules.specs.Opening.{uncapped}
 use Rattle.rules.specs.Calls.{Tender, open_tender}
-use Rattle.log.specs.Steps.{Log, Step, ending, on_tender, admitted_in, admission_step, opened_step, announcement_step, received, reception_step, closed, closing_step, revoked, revocation_step, allotted, allotting_step, step}
+use Rattle.log_rules.specs.Steps.{Log, Step, ending, on_tender, admitted_in, admission_step, opened_step, announcement_step, received, reception_step, closed, closing_step, revoked, revocation_step, allotted, allotting_step, step}
 use Rattle.session_fields.specs.Codes.{codes_from}
 use Rattle.session_fields.proofs.Codes.{admitted_are}
 use Rattle.endings.specs.Endings.{is_none, ends_log, EndsLog}

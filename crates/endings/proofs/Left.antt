@@ -10,8 +10,8 @@ use lib.Seq.{get_or-drop, drop-drop}
 use borrow.Author.Tests.{le-leb}
 use Rattle.laws.proofs.Tests.{and_left}
 use Rattle.layout.specs.Fields.{length_at}
-use Rattle.log.specs.Steps.{tag_of, content_of, after_field, holds_field}
-use Rattle.log.proofs.Walks.{no_head, with_head, held_whole, after_shorter, tag-before, content-before, after-before, held-before}
+use Rattle.log_rules.specs.Steps.{tag_of, content_of, after_field, holds_field}
+use Rattle.log_rules.proofs.Walks.{no_head, with_head, held_whole, after_shorter, tag-before, content-before, after-before, held-before}
 use Rattle.endings.specs.Endings.{ends_log, goes_on, left_after, left_of, LeftEnds}
 
 module _ (s : List ℕ) where

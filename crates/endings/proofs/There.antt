@@ -9,8 +9,8 @@ use lib.Seq.{length-take-le, drop-length, get_or-take, take-add}
 use borrow.Author.Tests.{le-leb, not-true, not-false}
 use Rattle.laws.proofs.Tests.{and_right}
 use Rattle.layout.specs.Fields.{length_at}
-use Rattle.log.specs.Steps.{Log, Step, ending, step, tag_of, content_of, after_field, holds_field, walked, log_from}
-use Rattle.log.proofs.Walks.{held_whole, with_head, after_shorter, tag-before, content-before, field-first}
+use Rattle.log_rules.specs.Steps.{Log, Step, ending, step, tag_of, content_of, after_field, holds_field, walked, log_from}
+use Rattle.log_rules.proofs.Walks.{held_whole, with_head, after_shorter, tag-before, content-before, field-first}
 use Rattle.endings.specs.Endings.{ends_log, goes_on, left_after, LogEndsThere}
 use Rattle.endings.proofs.Ending.{Ends, ends_step, ends_log_lem}
 use Rattle.endings.proofs.Left.{goes_held, left_one, left_none, left_short, stays_short}

@@ -8,7 +8,7 @@ use borrow.Author.Tests.{lt-ltb, le-ltb}
 use lib.ListN.{length}
 use Rattle.texts.specs.Texts.{ascii}
 use Rattle.layout.specs.Fields.{length_at}
-use Rattle.log.specs.Steps.{tag_of}
+use Rattle.log_rules.specs.Steps.{tag_of}
 use Rattle.endings.specs.Endings.{missing_text, tag_text, field_text, is_tag, why_text}
 
 module _ (s : List ℕ) where

@@ -4,8 +4,8 @@ use Rattle.std.proofs.Math.Option.{Option, none, some}
 use Rattle.texts.specs.Texts.{ascii}
 use Rattle.digits.specs.Decimal.{digits}
 use Rattle.layout.specs.Fields.{length_at}
-use Rattle.log.specs.Lines.{line_end}
-use Rattle.log.specs.Steps.{Log, admitted_in, step, tag_of, content_of, after_field, holds_field, log_from}
+use Rattle.log_rules.specs.Lines.{line_end}
+use Rattle.log_rules.specs.Steps.{Log, admitted_in, step, tag_of, content_of, after_field, holds_field, log_from}
 
 -- whether an A0 admits no list of codes
 abbrev pub is_none : Option (List ℕ) → Bool

@@ -2,7 +2,7 @@
 use Rattle.std.specs.Prelude.{Bool, true, ◌&&◌, List, [], ◌∷◌, ◌++◌, ℕ, ◌-◌, T, length}
 use Rattle.texts.specs.Texts.{ascii, same_text}
 use Rattle.layout.specs.Fields.{field}
-use Rattle.log.specs.Lines.{line_end}
+use Rattle.log_rules.specs.Lines.{line_end}
 use Rattle.endings.specs.Endings.{left_of, ending_text}
 
 -- the line of a session, which is empty where nothing is left

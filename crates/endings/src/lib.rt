@@ -1,4 +1,6 @@
 // Where the log of a session ended, and why.
+#![tactic(auto)]
+
 pub mod internal;
 mod text;
 

@@ -181,9 +181,9 @@ module _ (m : List ℕ) (r : readable layout6_g1 m ≡ true) (h : all_well_forme
   unfolding all_well_formed fields_of
   identifier = and_right (addressed m Sender && addressed m Recipient && holds m Cro && holds m Date && holds m Time && holds m Check && formed m) (is_identifier (bytes_of Identifier m)) h
 
-  numbers_fit : numbers_fit (application_from (fields_of m)) ≡ true
+  numbers_fit_lem : numbers_fit (application_from (fields_of m)) ≡ true
   unfolding numbers_fit fields_of places_of
-  numbers_fit =
+  numbers_fit_lem =
       rw ((address_written (bytes_of Sender m) each.0).1, (address_written (bytes_of Recipient m) each.1).1, field_fits m Cro (length-field m r Cro) each.2, field_fits m Date (length-field m r Date) each.3, field_fits m Time (length-field m r Time) each.4, field_fits m Check (length-field m r Check) each.5)
       (places_fit_lem 10 (bytes_of Bids m) (length-field m r Bids) each.6)
 
@@ -215,4 +215,4 @@ unfolding write first_holding
 readable_writes_back m space f h w l =
     let r = read-accepted m f h in
     let e : all_well_formed (fields_of m) (bytes_of Identifier m) ≡ true = ap₂ all_well_formed (sym (fields_are m f h)) (sym (bytes_are m f h Identifier)) ∙ w in
-    rw (fields_are m f h, bytes_are m f h MessageType, bytes_are m f h Identifier, bytes_are m f h Name, numbers_fit m r e, texts_fit_lem m r e, written_again m r e, le-ltb (length space) (length m) l)
+    rw (fields_are m f h, bytes_are m f h MessageType, bytes_are m f h Identifier, bytes_are m f h Name, numbers_fit_lem m r e, texts_fit_lem m r e, written_again m r e, le-ltb (length space) (length m) l)

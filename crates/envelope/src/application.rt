@@ -18,7 +18,7 @@ use places::{Amount, Places, Rate, places_fit};
 use words::internal::{put_digits, put_eight, put_text};
 
 // The fields of a 6G1, in their order.
-#[derive(Drop)]
+#[derive(Clone, Copy)]
 pub enum Field {
     MessageType,
     Sender,
@@ -33,7 +33,7 @@ pub enum Field {
 }
 
 // What a 6G1 holds: two addresses, the number of each digit field, and the numbers of each of the ten places.
-#[derive(Drop)]
+#[derive(Clone, Copy)]
 pub struct Fields {
     pub sender: Address,
     pub recipient: Address,
@@ -44,20 +44,20 @@ pub struct Fields {
     pub places: Places,
 }
 
-#[derive(Drop)]
+#[derive(Clone, Copy)]
 pub enum ReadAnswer {
     Readable,
     Unreadable,
 }
 
-#[derive(Drop)]
+#[derive(Clone, Copy)]
 pub struct Reading {
     pub answer: ReadAnswer,
     pub fields: Fields,
 }
 
 // The addresses and numbers that a 6G1 is written from.
-#[derive(Drop)]
+#[derive(Clone, Copy)]
 pub struct Application {
     pub sender: Address,
     pub recipient: Address,
@@ -69,7 +69,7 @@ pub struct Application {
     pub amounts: [Amount; 10],
 }
 
-#[derive(Drop)]
+#[derive(Clone, Copy)]
 pub enum WriteAnswer {
     Written,
     Unfit,

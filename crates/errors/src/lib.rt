@@ -1,11 +1,13 @@
 // The errors of a message, collected in the order of document 01 as their codes.
+#![tactic(auto)]
+
 pub mod internal;
 
 ghost use Rattle.std.specs.Prelude.{◌≡◌, []};
 ghost use Rattle.errors.specs.Listed.{listed};
 
 // The first n of codes are the errors.
-#[derive(Drop)]
+#[derive(Clone, Copy)]
 pub struct Errors {
     pub codes: [u16; 16],
     pub n: usize,

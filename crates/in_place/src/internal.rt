@@ -20,7 +20,7 @@ use reception::internal::put_reply;
 use refusals::{Refusal, close_refusal, ended_refusal, is_refused, not_closed};
 
 // What a reception tells: why it is refused, else the errors with which the message is returned, and the length of the reply.
-#[derive(Drop)]
+#[derive(Clone, Copy)]
 pub struct Told {
     pub refusal: Refusal,
     pub errors: Errors,

@@ -10,8 +10,8 @@ use lib.ListN.{length, take}
 use lib.Seq.{take-take}
 use Rattle.rules.specs.Opening.{uncapped}
 use Rattle.rules.specs.Calls.{Tender, open_tender}
-use Rattle.log.specs.Steps.{Log, Step, ending, on_tender, admitted_in, admission_step, opened_step, announcement_step, received, reception_step, closed, closing_step, revoked, revocation_step, allotted, allotting_step, step, tag_of, content_of, after_field, holds_field, walked, log_from}
-use Rattle.log.proofs.Codes.{first_65_tell}
+use Rattle.log_rules.specs.Steps.{Log, Step, ending, on_tender, admitted_in, admission_step, opened_step, announcement_step, received, reception_step, closed, closing_step, revoked, revocation_step, allotted, allotting_step, step, tag_of, content_of, after_field, holds_field, walked, log_from}
+use Rattle.log_rules.proofs.Codes.{first_65_tell}
 use Rattle.steps.specs.Viewed.{kept}
 
 -- two steps alike: a journal keeps the same of both, and their lines are the same

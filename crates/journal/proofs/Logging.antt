@@ -11,7 +11,7 @@ use Rattle.output.proofs.Output.{from_start}
 use Rattle.layout.specs.Fields.{length_at}
 use Rattle.layout.proofs.Fields.{first_byte}
 use Rattle.buffer.specs.Words.{tender_words}
-use Rattle.log.specs.Steps.{Log, step, tag_of, content_of, holds_field}
+use Rattle.log_rules.specs.Steps.{Log, step, tag_of, content_of, holds_field}
 use Rattle.steps.specs.declared.Standing.{Standing}
 use Rattle.steps.specs.declared.Taken.{Taken}
 use Rattle.steps.specs.Viewed.{viewed, kept, Given, Takes}

@@ -10,8 +10,8 @@ use lib.Seq.{drop-drop, take_all}
 use Rattle.output.specs.Output.{overlay, Wrote}
 use Rattle.output.proofs.Output.{nothing, then, from_start}
 use Rattle.layout.specs.Fields.{length_at}
-use Rattle.log.specs.Steps.{Log, step, tag_of, content_of, after_field, holds_field, log_from}
-use Rattle.log.proofs.Walks.{held-head, held_whole, field-first}
+use Rattle.log_rules.specs.Steps.{Log, step, tag_of, content_of, after_field, holds_field, log_from}
+use Rattle.log_rules.proofs.Walks.{held-head, held_whole, field-first}
 use Rattle.endings.proofs.Ending.{ends_log_lem}
 use Rattle.endings.proofs.Left.{left-past}
 use Rattle.steps.specs.Viewed.{kept}

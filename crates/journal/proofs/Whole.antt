@@ -8,7 +8,7 @@ use lib.ListN.{length, take, drop}
 use lib.Seq.{take_at}
 use Rattle.output.specs.Output.{Wrote}
 use Rattle.output.proofs.Output.{from_start}
-use Rattle.log.specs.Steps.{Log, start, holds_field, walked, log_from, log_of}
+use Rattle.log_rules.specs.Steps.{Log, start, holds_field, walked, log_from, log_of}
 use Rattle.journal.specs.Runs.{RunsAll, no_more, and_next, LogOfRuns}
 
 -- a text written from the start is the first bytes of the space after

@@ -2,7 +2,7 @@
 use Rattle.std.specs.Prelude.{◌≡◌, ◌&&◌, not, false, List, [], ◌++◌, ℕ, ◌-◌, ◌≤◌, leb, length, take, drop}
 use Rattle.output.specs.Output.{Wrote}
 use Rattle.buffer.specs.Words.{tender_words}
-use Rattle.log.specs.Steps.{Log, start, holds_field, log_from, log_of}
+use Rattle.log_rules.specs.Steps.{Log, start, holds_field, log_from, log_of}
 use Rattle.endings.specs.Endings.{left_of}
 use Rattle.steps.specs.Viewed as steps
 use Rattle.journal.specs.declared.Logged.{Logged}

@@ -2,7 +2,7 @@
 use Rattle.std.specs.Prelude.{◌≡◌, true, cond, ◌≤◌, take}
 use Rattle.std.proofs.Math.Option.{none, some}
 use Rattle.buffer.specs.Words.{tender_in, is_tender}
-use Rattle.log.specs.Steps.{Log}
+use Rattle.log_rules.specs.Steps.{Log}
 use Rattle.journal.specs.declared.Journal.{Journal}
 
 abbrev pub viewed : Journal → Log

@@ -1,6 +1,6 @@
 // The fields of an input.
 ghost use Rattle.std.specs.Prelude.{◌≡◌, ◌≤◌, length, drop};
-ghost use Rattle.log.specs.Steps.{holds_field};
+ghost use Rattle.log_rules.specs.Steps.{holds_field};
 
 use layout::internal::length_at;
 

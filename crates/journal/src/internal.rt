@@ -1,7 +1,7 @@
 // The fields of a session taken one after the other, in codes and words that a caller lends.
 ghost use Rattle.std.specs.Prelude.{◌≡◌, List, ℕ, length};
 ghost use Rattle.buffer.specs.Words.{tender_words};
-ghost use Rattle.log.specs.Steps.{start};
+ghost use Rattle.log_rules.specs.Steps.{start};
 ghost use Rattle.steps.specs.Viewed.{viewed, Given};
 ghost use Rattle.journal.specs.Runs.{LogsIn};
 
@@ -22,7 +22,7 @@ pub fn standing_at_start() -> Standing
 }
 
 // What the standing is after a run, how many bytes of the input were taken, and the length of the lines written.
-#[derive(Drop)]
+#[derive(Clone, Copy)]
 pub struct Ran {
     pub standing: Standing,
     pub used: usize,

@@ -1,9 +1,11 @@
 // The session log: a journal, and the fields of a session taken into it one after the other.
+#![tactic(auto)]
+
 mod fields;
 pub mod internal;
 
 ghost use Rattle.std.specs.Prelude.{◌≡◌};
-ghost use Rattle.log.specs.Steps.{start};
+ghost use Rattle.log_rules.specs.Steps.{start};
 ghost use Rattle.journal.specs.Viewed.{viewed, Given};
 ghost use Rattle.journal.specs.Runs.{Logs};
 
@@ -11,7 +13,7 @@ use internal::run_in;
 use steps::Standing;
 
 // The codes of the last A0, the first 65 of them, and the words of the tender of the last accepted A1, if there was one.
-#[derive(Drop)]
+#[derive(Clone, Copy)]
 pub struct Journal {
     ended: bool,
     opened: bool,
@@ -41,7 +43,7 @@ pub fn has_ended(j: Journal) -> bool
 }
 
 // How many bytes of the input were taken, the length of the lines written, and what the journal is then.
-#[derive(Drop)]
+#[derive(Clone, Copy)]
 pub struct Logged {
     pub used: usize,
     pub length: usize,

@@ -1,4 +1,6 @@
 // A message as the fields of a layout: each a tag, a length and contents.
+#![tactic(auto)]
+
 pub mod internal;
 
 ghost use Rattle.std.specs.Prelude.{◌≡◌, ◌≤◌, length, drop};

@@ -5,7 +5,7 @@ use Prim.Native.Nat.{ℕ}
 use Rattle.texts.specs.Texts.{ascii}
 use Rattle.rules.specs.Receiving.{Error}
 use Rattle.rules.specs.Replies.{error_texts, shown}
-use Rattle.log.specs.Lines.{line_end, sender_of, confirmed_line, returned_line}
+use Rattle.log_rules.specs.Lines.{line_end, sender_of, confirmed_line, returned_line}
 use Rattle.lines.specs.Parts.{clock, confirmed_at, returned_at}
 
 pub confirmed_parts : (s m : List ℕ) → clock 67 s ++ (ascii " " ++ sender_of m) ++ line_end ≡ confirmed_at s m

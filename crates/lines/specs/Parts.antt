@@ -2,8 +2,8 @@
 use Rattle.std.specs.Prelude.{List, [], ◌∷◌, ◌++◌, ℕ}
 use Rattle.texts.specs.Texts.{ascii}
 use Rattle.rules.specs.Receiving.{Error}
-use Rattle.log.specs.Lines.{confirmed_line, returned_line}
-use Rattle.log.specs.Steps.{date_in, time_in}
+use Rattle.log_rules.specs.Lines.{confirmed_line, returned_line}
+use Rattle.log_rules.specs.Steps.{date_in, time_in}
 
 -- the kind of a line, a blank, and the date and time of a reception
 abbrev pub clock : ℕ → List ℕ → List ℕ

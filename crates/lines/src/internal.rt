@@ -5,7 +5,7 @@ ghost use Rattle.output.specs.Output.{Wrote};
 ghost use Rattle.texts.specs.Texts.{ascii};
 ghost use Rattle.envelope.specs.Application.{layout6_g1};
 ghost use Rattle.errors.specs.Listed.{listed};
-ghost use Rattle.log.specs.Lines.{sender_of, refused_line};
+ghost use Rattle.log_rules.specs.Lines.{sender_of, refused_line};
 ghost use Rattle.lines.specs.Parts.{clock, confirmed_at, returned_at};
 
 use digits::internal::put_digits;

@@ -1,2 +1,4 @@
 // The lines of receptions and refusals.
+#![tactic(auto)]
+
 pub mod internal;

@@ -1,10 +1,12 @@
 // The marginal rate: the first rate, best first, at which the running total of the bids in reaches the amount offered.
+#![tactic(auto)]
+
 pub mod internal;
 
 use places::Rate;
 
 // The marginal rate, or that there is none.
-#[derive(Drop)]
+#[derive(Clone, Copy)]
 pub enum MarginalRate {
     At(Rate),
     None,

@@ -1,4 +1,6 @@
 // An offer, which of the bids in a book are in, and their totals by rate.
+#![tactic(auto)]
+
 pub mod internal;
 
 ghost use Rattle.std.specs.Prelude.{◌≡◌, true, ltb};
@@ -11,7 +13,7 @@ use bids::{Bid, is_filled, less};
 use places::{Amount, Rate};
 
 // What allotting takes from the announcement.
-#[derive(Drop)]
+#[derive(Clone, Copy)]
 pub struct Offer {
     pub side: Side,
     pub limit: Rate,
@@ -19,7 +21,7 @@ pub struct Offer {
 }
 
 // The totals at rates better than one, and at it.
-#[derive(Drop)]
+#[derive(Clone, Copy)]
 pub struct Totals {
     pub better: Amount,
     pub equal: Amount,

@@ -1,5 +1,7 @@
 // The 6G1 for a host in C: numbers and byte slices, and nothing else. Whether there is something to
 // ask for is asked by a call of its own, so that no answer stands for two things.
+#![tactic(auto)]
+
 mod reading;
 mod whole;
 mod writing;

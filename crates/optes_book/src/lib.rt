@@ -1,5 +1,7 @@
 // The tender book for a host in C: the calls on a tender in words that the host lends. Each tests the words first of all, so that it asks nothing of
 // the host but what its pointers say.
+#![tactic(auto)]
+
 ghost use Rattle.std.specs.Prelude.{◌≡◌, ◌+◌, ◌≤◌, length};
 ghost use Rattle.output.specs.Output.{Wrote};
 ghost use Rattle.rules.specs.Opening.{admitting};

@@ -22,7 +22,7 @@ use refusals::{Refusal, State, bids_refusal, is_refused, not_open};
 use terms::Terms;
 
 // What is accepted of a message: where its code stands, its reference time and its ten places.
-#[derive(Drop)]
+#[derive(Clone, Copy)]
 pub struct Accepted {
     pub at: usize,
     pub time: u64,
@@ -31,7 +31,7 @@ pub struct Accepted {
 }
 
 // What a reception comes to: why it is refused, else its errors, else what is accepted.
-#[derive(Drop)]
+#[derive(Clone, Copy)]
 pub struct Outcome {
     pub refusal: Refusal,
     pub errors: Errors,
@@ -71,7 +71,7 @@ pub fn refused_with(refusal: Refusal) -> Outcome
 }
 
 // What receiving refuses of a message: why it does, or the fields of the message.
-#[derive(Drop)]
+#[derive(Clone, Copy)]
 pub struct Checked {
     pub refusal: Refusal,
     pub fields: Fields,
@@ -156,7 +156,7 @@ pub fn judged(
 }
 
 // Why allotting is refused, or that it is not, and the marginal rate.
-#[derive(Drop)]
+#[derive(Clone, Copy)]
 pub struct AllotAnswer {
     pub refusal: Refusal,
     pub marginal: MarginalRate,

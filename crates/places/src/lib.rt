@@ -1,19 +1,21 @@
 // Rates and amounts, and the places of a 6G1's bids that hold them.
+#![tactic(auto)]
+
 pub mod internal;
 
 ghost use Rattle.std.specs.Prelude.{◌≡◌};
 ghost use Rattle.places.specs.Bids.{places_fit};
 
 // A rate in hundred-thousandths of a percent.
-#[derive(Drop)]
+#[derive(Clone, Copy)]
 pub struct Rate(pub u32);
 
 // An amount in eurocents.
-#[derive(Drop)]
+#[derive(Clone, Copy)]
 pub struct Amount(pub u64);
 
 // A place: whether it is well formed, and its numbers, which are zeros where it is not.
-#[derive(Drop)]
+#[derive(Clone, Copy)]
 pub struct Place {
     pub formed: bool,
     pub rate: Rate,
@@ -21,7 +23,7 @@ pub struct Place {
 }
 
 // Ten places.
-#[derive(Drop)]
+#[derive(Clone, Copy)]
 pub struct Places {
     pub formed: [bool; 10],
     pub rates: [Rate; 10],

@@ -1,4 +1,6 @@
 // Where a tender stands, and why a call on it is refused.
+#![tactic(auto)]
+
 ghost use Rattle.std.specs.Prelude.{◌≡◌, [], ◌∷◌};
 ghost use Rattle.envelope.specs.Refusals.{first_holding, or_zero};
 ghost use Rattle.rules.specs.Calls.{clock_invalid};
@@ -7,7 +9,7 @@ ghost use Rattle.refusals.specs.Conditions.{state_of, refusal_number, is_some, n
 use calendar::{moment_later, valid_date, valid_time};
 use terms::Terms;
 
-#[derive(Drop)]
+#[derive(Clone, Copy)]
 pub enum State {
     Open,
     Closed,
@@ -16,7 +18,7 @@ pub enum State {
 }
 
 // Why a call is refused, or that it is not.
-#[derive(Drop)]
+#[derive(Clone, Copy)]
 pub enum Refusal {
     None,
     Revoked,

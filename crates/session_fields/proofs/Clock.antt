@@ -7,7 +7,7 @@ use lib.ListN.{take, drop}
 use lib.Seq.{drop-drop}
 use Rattle.digits.specs.Decimal.{all_digits, is_number, digits_of, number_in}
 use Rattle.digits.proofs.Reading.{number_is, none_is, digits_join}
-use Rattle.log.specs.Steps.{date_in, time_in, date_of}
+use Rattle.log_rules.specs.Steps.{date_in, time_in, date_of}
 
 -- the bytes after the first two of eight
 after_two : (x : List ℕ) → drop 2 (take 8 x) ≡ take 6 (drop 2 x)

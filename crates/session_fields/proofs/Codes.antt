@@ -14,7 +14,7 @@ use Rattle.laws.proofs.Tests.{and_left, and_right}
 use Rattle.digits.specs.Decimal.{all_digits, digits_of}
 use Rattle.digits.proofs.Reading.{number_is, none_is, digits_join, number_below}
 use Rattle.output.proofs.Output.{length_part}
-use Rattle.log.specs.Steps.{and_code, groups, admitted_in}
+use Rattle.log_rules.specs.Steps.{and_code, groups, admitted_in}
 use Rattle.session_fields.specs.Codes.{group_code, codes_from}
 
 -- digits in two parts

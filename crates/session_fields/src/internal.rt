@@ -1,7 +1,7 @@
 // The clock and the codes in the contents of a field that is long enough for them.
 ghost use Rattle.std.specs.Prelude.{◌≡◌, true, ◌+◌, ◌*◌, ◌≤◌, min, length, take, drop};
 ghost use Rattle.digits.specs.Decimal.{all_digits};
-ghost use Rattle.log.specs.Steps.{date_of, time_of};
+ghost use Rattle.log_rules.specs.Steps.{date_of, time_of};
 ghost use Rattle.session_fields.specs.Codes.{group_code, codes_from};
 
 use digits::internal::number;

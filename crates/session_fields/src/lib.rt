@@ -1,2 +1,4 @@
 // The clock and the codes of the fields of a session.
+#![tactic(auto)]
+
 pub mod internal;

@@ -13,7 +13,7 @@ use borrow.Author.Tests.{eqb-true}
 use Rattle.laws.proofs.Tests.{and_left, and_right}
 use Rattle.output.proofs.Output.{nothing}
 use Rattle.digits.specs.Decimal.{all_digits}
-use Rattle.log.specs.Steps.{Log, Step, admission_step, ending}
+use Rattle.log_rules.specs.Steps.{Log, Step, admission_step, ending}
 use Rattle.session_fields.specs.Codes.{codes_from}
 use Rattle.session_fields.proofs.Codes.{codes-kept, admitted_are}
 use Rattle.steps.specs.declared.Standing.{Standing}

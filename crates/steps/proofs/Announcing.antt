@@ -18,8 +18,8 @@ use Rattle.terms.specs.Viewed.{open_refusal, is_opened}
 use Rattle.terms.proofs.Forming.{opened_none, refused_some}
 use Rattle.buffer.specs.Words.{tender_words}
 use Rattle.buffer_opening.specs.Opening.{held, opened_numbers, OpensIn}
-use Rattle.log.specs.Lines.{refused_line}
-use Rattle.log.specs.Steps.{opened_step, announcement_step}
+use Rattle.log_rules.specs.Lines.{refused_line}
+use Rattle.log_rules.specs.Steps.{opened_step, announcement_step}
 use Rattle.steps.specs.declared.Standing.{Standing}
 use Rattle.steps.specs.Viewed.{viewed, Given, Takes}
 use Rattle.steps.proofs.Taking.{all-kept, takes_as, takes-nothing}

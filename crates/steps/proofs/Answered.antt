@@ -7,9 +7,9 @@ use Prim.Native.Nat.{ℕ}
 use lib.ListN.{drop}
 use Rattle.envelope.specs.Refusals.{or_zero}
 use Rattle.rules.specs.Receiving.{Error, is_empty}
-use Rattle.rules.specs.Calls.{confirmed, returned, refused, answer_to}
-use Rattle.log.specs.Lines.{confirmed_line, returned_line, refused_line}
-use Rattle.log.specs.Steps.{date_in, time_in, answer_line}
+use Rattle.rules.specs.Calls.{answer_to}
+use Rattle.log_rules.specs.Lines.{confirmed_line, returned_line, refused_line}
+use Rattle.log_rules.specs.Steps.{date_in, time_in, answer_line}
 use Rattle.refusals.specs.Conditions.{is_some}
 use Rattle.outcomes.specs.Answers.{answer_in}
 

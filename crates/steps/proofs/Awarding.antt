@@ -25,8 +25,8 @@ use Rattle.buffer.proofs.Words.{known, sized}
 use Rattle.in_place.specs.InPlace.{AllotsIn}
 use Rattle.buffer_allotment.proofs.Lent.{bids_lent}
 use Rattle.award_lines.proofs.Places.{length_in_book}
-use Rattle.log.specs.Lines.{refused_line, award_line, place_lines, award_lines}
-use Rattle.log.specs.Steps.{awards_line, allotted}
+use Rattle.log_rules.specs.Lines.{refused_line, award_line, place_lines, award_lines}
+use Rattle.log_rules.specs.Steps.{awards_line, allotted}
 
 place_lines_lem : (code place : ℕ) (bs : List Bid) (xs rest : List ℕ) → length bs ≤ length xs → place_lines code place bs (xs ++ rest) ≡ place_lines code place bs xs
 unfolding place_lines

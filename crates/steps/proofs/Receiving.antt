@@ -11,7 +11,7 @@ use Rattle.rules.specs.Calls as rules
 use Rattle.rules.specs.Calls.{receiving_refused, reply, answer_to, answer_with, answer_unless, receive}
 use Rattle.errors.specs.Listed.{listed}
 use Rattle.checks.specs.Columns as checks
-use Rattle.log.specs.Steps.{date_of, time_of, reception_in, answer_line, received}
+use Rattle.log_rules.specs.Steps.{date_of, time_of, reception_in, answer_line, received}
 use Rattle.outcomes.specs.declared.internal.Outcome.{Outcome}
 use Rattle.refusals.specs.Conditions.{refusal_number}
 use Rattle.outcomes.specs.Answers.{answer_in}

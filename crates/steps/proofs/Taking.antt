@@ -14,8 +14,8 @@ use Rattle.output.proofs.Output.{nothing, said}
 use Rattle.envelope.specs.Refusals.{or_zero}
 use Rattle.rules.specs.Calls.{Tender}
 use Rattle.buffer.specs.Words.{tender_in}
-use Rattle.log.specs.Lines.{refused_line}
-use Rattle.log.specs.Steps.{Log, Step, ending, on_tender, refusal, admission_step, announcement_step, reception_step, closing_step, revocation_step, allotting_step, step}
+use Rattle.log_rules.specs.Lines.{refused_line}
+use Rattle.log_rules.specs.Steps.{Log, Step, ending, on_tender, refusal, admission_step, announcement_step, reception_step, closing_step, revocation_step, allotting_step, step}
 use Rattle.refusals.specs.declared.Refusal.{Refusal}
 use Rattle.refusals.specs.Conditions.{is_some, refusal_number}
 use Rattle.in_place.specs.InPlace.{ChangesIn}

@@ -4,7 +4,7 @@ use Rattle.std.proofs.Math.Option.{none, some}
 use Rattle.output.specs.Output.{Wrote}
 use Rattle.rules.specs.Calls.{Tender}
 use Rattle.buffer.specs.Words.{tender_in, is_tender}
-use Rattle.log.specs.Steps.{Log, Step}
+use Rattle.log_rules.specs.Steps.{Log, Step}
 use Rattle.steps.specs.declared.Standing.{Standing}
 use Rattle.steps.specs.declared.Taken.{Taken}
 

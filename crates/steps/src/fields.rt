@@ -3,7 +3,7 @@ ghost use Rattle.std.specs.Prelude.{◌≡◌, true, List, ℕ, ◌≤◌, lengt
 ghost use Rattle.output.specs.Output.{Wrote};
 ghost use Rattle.refusals.specs.Conditions.{refusal_number};
 ghost use Rattle.buffer.specs.Words.{tender_words, tender_in, is_tender};
-ghost use Rattle.log.specs.Steps.{refusal, allotted, admission_step, announcement_step, reception_step, closing_step, revocation_step, allotting_step};
+ghost use Rattle.log_rules.specs.Steps.{refusal, allotted, admission_step, announcement_step, reception_step, closing_step, revocation_step, allotting_step};
 ghost use Rattle.steps.specs.Viewed.{viewed, Given, Ready, Takes, Calls, ended_at};
 
 use crate::internal::put_answer;

@@ -8,7 +8,7 @@ ghost use Rattle.errors.specs.Listed.{listed};
 ghost use Rattle.refusals.specs.Conditions.{refusal_number};
 ghost use Rattle.outcomes.specs.Answers.{answer_in};
 ghost use Rattle.buffer.specs.Words.{tender_words};
-ghost use Rattle.log.specs.Steps.{answer_line, step};
+ghost use Rattle.log_rules.specs.Steps.{answer_line, step};
 ghost use Rattle.steps.specs.Viewed.{viewed, Ready, Takes};
 
 use crate::fields::{admission, allotting, announcement, closing, ended, reception, revocation};

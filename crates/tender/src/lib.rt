@@ -1,4 +1,6 @@
 // The calls on a tender: each takes it by value and gives back the next one with the answer.
+#![tactic(auto)]
+
 ghost use Rattle.std.specs.Prelude.{◌≡◌, []};
 ghost use Rattle.rules.specs.Opening.{admitting};
 ghost use Rattle.rules.specs.Calls.{receive, close, revoke};
@@ -24,7 +26,7 @@ use refusals::{close_refusal, ended_refusal, not_closed};
 use terms::{OpenAnswer, Terms, is_opened};
 
 // What was announced and for whom, what is held for each admitted code, and where the tender stands.
-#[derive(Drop)]
+#[derive(Clone, Copy)]
 pub struct Tender {
     state: State,
     terms: Terms,
@@ -32,14 +34,14 @@ pub struct Tender {
 }
 
 // Why an opening is refused, or that it is not, and the tender.
-#[derive(Drop)]
+#[derive(Clone, Copy)]
 pub struct Opened {
     pub answer: OpenAnswer,
     pub tender: Tender,
 }
 
 // A reception that is not refused is confirmed, or returned with its errors; the length is that of the reply.
-#[derive(Drop)]
+#[derive(Clone, Copy)]
 pub struct Received {
     pub refusal: Refusal,
     pub errors: Errors,
@@ -48,14 +50,14 @@ pub struct Received {
 }
 
 // What closing and revoking give.
-#[derive(Drop)]
+#[derive(Clone, Copy)]
 pub struct Changed {
     pub refusal: Refusal,
     pub tender: Tender,
 }
 
 // What allotting and a preview give: the awards of all places in book order and the marginal rate, zeros and none where the call is refused.
-#[derive(Drop)]
+#[derive(Clone, Copy)]
 pub struct Allotted {
     pub refusal: Refusal,
     pub tender: Tender,

@@ -1,5 +1,7 @@
 // The terms of a tender: what opening refuses of an announcement, an admitted list and its limits, and what
 // it keeps of the announcement.
+#![tactic(auto)]
+
 ghost use Rattle.std.specs.Prelude.{◌≡◌, true, ◌<◌, length};
 ghost use Rattle.layout.specs.Fields.{readable};
 ghost use Rattle.envelope.specs.Refusals.{or_zero};
@@ -17,7 +19,7 @@ use places::{Amount, Rate};
 use texts::same;
 
 // Why an opening is refused, or that it is not.
-#[derive(Drop)]
+#[derive(Clone, Copy)]
 pub enum OpenAnswer {
     Opened,
     NotAnnouncement,
@@ -32,7 +34,7 @@ pub enum OpenAnswer {
 }
 
 // What a tender keeps of its announcement.
-#[derive(Drop)]
+#[derive(Clone, Copy)]
 pub struct Terms {
     pub identifier: [u8; 11],
     pub side: Side,
@@ -47,7 +49,7 @@ pub struct Terms {
     pub limit: Rate,
 }
 
-#[derive(Drop)]
+#[derive(Clone, Copy)]
 pub struct Opening {
     pub answer: OpenAnswer,
     pub terms: Terms,

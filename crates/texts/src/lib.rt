@@ -1,4 +1,6 @@
 // Texts compared byte by byte.
+#![tactic(auto)]
+
 ghost use Rattle.std.specs.Prelude.{◌≡◌};
 ghost use Rattle.texts.specs.Texts.{same_text};
 

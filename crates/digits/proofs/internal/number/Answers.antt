@@ -5,7 +5,7 @@ use Rattle.digits.proofs.Reading.{number_is, none_is}
 use Rattle.digits.proofs.internal.number.Goals as goal
 
 pub value-requires : goal.value-requires
-value-requires c = (c.requires, sym c.all_digits.ensures ∙ c.if-all_digits.true)
+value-requires c = record { s_len_bound = c.requires; s_value = sym c.all_digits.ensures ∙ c.if-all_digits.true }
 
 pub returns-then-all_digits : goal.returns-then-all_digits
 returns-then-all_digits c = ap Number c.value.ensures ∙ sym (number_is c.args.s.now (sym c.all_digits.ensures ∙ c.if-all_digits.true))

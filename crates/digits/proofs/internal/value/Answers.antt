@@ -6,36 +6,33 @@ use lib.ListN.{length, get_or}
 use Rattle.digits.proofs.Reading.{next_digit, next_digits, next_number, last-number, below_more, below_19}
 use Rattle.digits.proofs.internal.value.Goals as goal
 
--- TODO no goal overflow-mul-n
--- mul-n : tie.Need-overflow-mul-n invariant-loop decreases-loop
--- mul-n c =
---     let s = c.before.before.before.args.s.now in
---     let l = c.before.loop in
---     let h = c.before.before.before.requires.0 in
---     let p = below_19 l.n l.i (omega arith) l.invariant.3 in
---     omega arith
-
--- TODO no goal overflow-sub-wide
--- sub_wide : tie.Need-overflow-sub-wide invariant-loop decreases-loop
--- sub_wide c =
---     let l = c.before.before.loop in
---     (next_digit c.before.before.before.before.args.s.now l.i (omega arith) l.invariant.2).0
-
--- TODO no goal overflow-add-n
--- add-n : tie.Need-overflow-add-n invariant-loop decreases-loop
--- add-n c =
---     let s = c.before.before.before.before.before.args.s.now in
---     let l = c.before.before.before.loop in
---     let h = c.before.before.before.before.before.requires.0 in
---     let p = below_19 l.n l.i (omega arith) l.invariant.3 in
---     let e = c.wide.ensures.1 in
---     omega arith
-
 pub loop-i-init : goal.loop-i-init
-loop-i-init c = (omega arith, refl, c.requires.1, omega arith)
+loop-i-init c = (omega arith, refl, c.requires.s_value, omega arith)
+
+pub overflow_mul-n : goal.overflow_mul-n
+overflow_mul-n c =
+    let s = c.args.s.now in
+    let l = c.loop-i in
+    let h = c.requires.s_len_bound in
+    let p = below_19 l.n l.i (omega arith) l.invariant.3 in
+    omega arith
+
+pub overflow_sub-s : goal.overflow_sub-s
+overflow_sub-s c =
+    let l = c.loop-i in
+    (next_digit c.args.s.now l.i (omega arith) l.invariant.2).0
 
 pub wide-requires : goal.wide-requires
 wide-requires c = tt
+
+pub overflow_add-n : goal.overflow_add-n
+overflow_add-n c =
+    let s = c.args.s.now in
+    let l = c.loop-i in
+    let h = c.requires.s_len_bound in
+    let p = below_19 l.n l.i (omega arith) l.invariant.3 in
+    let e = c.wide.ensures.1 in
+    omega arith
 
 pub loop-i-preserved : goal.loop-i-preserved
 loop-i-preserved c =

@@ -1,10 +1,9 @@
 -- `output::internal::put` meets its contract. The loop's invariant: space is as it was, with the first j bytes of text from at. Assumes nothing.
-use Prim.Native.Nat.{◌-◌}
 use mathlib.Core.Path.{◌≡◌}
 use native.Mathlib.Numerals.{add-one}
 use native.Mathlib.Omega.{arith}
 use lib.ListN.{length, length-set}
-use lib.Seq.{paste, paste-zero, paste-suc, take-length}
+use lib.Seq.{paste-zero, paste-suc, take-length}
 use Rattle.output.specs.Output.{overlay}
 use Rattle.output.proofs.internal.put.Goals as goal
 

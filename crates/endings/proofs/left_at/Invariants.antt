@@ -1,0 +1,12 @@
+-- `endings::left_at` meets its contract. The loop's invariant: from the index on as much is left as from the start. Assumes nothing.
+use mathlib.Core.Path.{◌≡◌}
+use Prim.Native.Nat.{◌-◌, ◌≤◌}
+use lib.ListN.{length, drop}
+use Rattle.endings.specs.Endings.{left_of}
+use Rattle.endings.proofs.left_at.Given as goal
+
+abbrev pub invariant-loop-at : goal.invariant-loop-at
+invariant-loop-at l = (l.at ≤ length l.input) × (left_of (drop l.at l.input) ≡ left_of l.input)
+
+abbrev pub decreases-loop-at : goal.decreases-loop-at
+decreases-loop-at l = length l.input - l.at

@@ -1,0 +1,23 @@
+-- `refusals::ended_refusal` meets its contract. Assumes nothing.
+use Rattle.envelope.specs.Refusals.{first_holding}
+use Rattle.rules.specs.Calls.{is_revoked, is_announced}
+use Rattle.refusals.specs.declared.State.TheVariants as state
+use Rattle.refusals.specs.Conditions.{ended}
+use Rattle.refusals.proofs.Conditions.{in_state_lem}
+use Rattle.refusals.proofs.ended_refusal.Goals as goal
+
+pub returns-in-Open : goal.returns-in-Open
+unfolding first_holding is_revoked is_announced
+returns-in-Open c = in_state_lem ended c.args.state state.Open c.in-Open.is
+
+pub returns-in-Closed : goal.returns-in-Closed
+unfolding first_holding is_revoked is_announced
+returns-in-Closed c = in_state_lem ended c.args.state state.Closed c.in-Closed.is
+
+pub returns-in-Announced : goal.returns-in-Announced
+unfolding first_holding is_revoked is_announced
+returns-in-Announced c = in_state_lem ended c.args.state state.Announced c.in-Announced.is
+
+pub returns-in-Revoked : goal.returns-in-Revoked
+unfolding first_holding is_revoked is_announced
+returns-in-Revoked c = in_state_lem ended c.args.state state.Revoked c.in-Revoked.is

@@ -1,0 +1,12 @@
+-- `replies::internal::put_errors` meets its contract. Assumes nothing.
+use mathlib.Core.Path.{ap}
+use native.Mathlib.Omega.{arith}
+use Rattle.output.proofs.Output.{said}
+use Rattle.rules.specs.Replies.{error_texts}
+use Rattle.replies.proofs.internal.put_errors.Goals as goal
+
+pub returns : goal.returns
+returns c =
+    let texts = c.put_texts in
+    let few = c.shown-few in
+    (said (ap error_texts few.ensures.0) texts.ensures.0, omega (arith, texts.ensures.1, few.ensures.1))

@@ -1,0 +1,63 @@
+-- `steps::fields::reception` meets its contract. Assumes nothing.
+use mathlib.Core.Path.{◌≡◌, refl, sym, ◌∙◌}
+use mathlib.Core.List.{List}
+use Prim.Native.Nat.{ℕ, ◌<◌, ◌≤◌}
+use lib.ListN.{length}
+use borrow.Author.Tests.{lt-ltb, le-ltb, not-true, not-false}
+use Rattle.output.proofs.Output.{said}
+use Rattle.buffer.specs.Words.{tender_in}
+use Rattle.log_rules.specs.Steps.{Log, ending, on_tender, received, reception_step}
+use Rattle.steps.specs.Viewed.{viewed}
+use Rattle.steps.proofs.Taking.{takes_as, takes-ended, takes_skipped, takes_called}
+use Rattle.steps.proofs.Receiving.{message_is, line_told, left-told}
+use Rattle.steps.proofs.fields.reception.Goals as goal
+
+-- a field that is too short, and one that is not
+ends : (s : List ℕ) (l : Log) → length s < 14 → ending l ≡ reception_step l s
+unfolding reception_step
+ends s l h = sym (rw (lt-ltb (length s) 14 h) refl)
+
+calls : (s : List ℕ) (l : Log) → 14 ≤ length s → on_tender l (received s) ≡ reception_step l s
+unfolding reception_step
+calls s l h = sym (rw (le-ltb (length s) 14 h) refl)
+
+pub returns-then-s-lt14 : goal.returns-then-s-lt14
+returns-then-s-lt14 c =
+    λ codes. let start = c in
+    let a = start.args in
+    takes_as (ends a.s.now (viewed a.standing codes a.words.now) c.if-s-lt14.true) (takes-ended a.standing codes a.words.now a.space.now _ c.ended.ensures start.requires.ready.given)
+
+pub returns-then-not-opened : goal.returns-then-not-opened
+returns-then-not-opened c =
+    λ codes. let start = c in
+    let a = start.args in
+    let s = a.s.now in
+    takes_as (calls s (viewed a.standing codes a.words.now) c.if-s-lt14.false) (takes_skipped a.standing codes a.words.now a.space.now (received s) start.requires.ready.given (not-true _ c.if-not-opened.true-raw))
+
+pub outcome_in-outcome-requires : goal.outcome_in-outcome-requires
+outcome_in-outcome-requires c = c.requires.ready.given.tender (not-false _ c.if-not-opened.false-raw)
+
+pub put_answer-length-requires : goal.put_answer-length-requires
+put_answer-length-requires c =
+    let start = c in
+    let e = c.outcome_in-outcome.ensures.comes in
+    record { m_value = e.readable-told; n_bound = (e.few, c.if-s-lt14.false, start.requires.in_bounds); m_value_2 = message_is start.args.s.now }
+
+pub leave_in-requires : goal.leave_in-requires
+leave_in-requires c = (c.requires.ready.given.tender (not-false _ c.if-not-opened.false-raw), c.outcome_in-outcome.ensures.comes.within)
+
+pub returns : goal.returns
+returns c =
+    λ codes. let start = c in
+    let a = start.args in
+    let s = a.s.now in
+    let ws = a.words.now in
+    let o = c.outcome_in-outcome in
+    let date = c.date_of in
+    let time = c.time_of in
+    let line = line_told (tender_in ws) s _ date.result time.result o.result o.ensures.comes (message_is s) date.ensures time.ensures in
+    let kept = left-told (tender_in ws) s _ date.result time.result o.result o.ensures.comes (message_is s) date.ensures time.ensures in
+    let left = c.leave_in.ensures in
+    takes_as (calls s (viewed a.standing codes ws) c.if-s-lt14.false)
+    (takes_called a.standing codes ws a.space.now (received s) _ _ _ start.requires.ready (not-false _ c.if-not-opened.false-raw)
+    (record { tender_is = kept ∙ sym left.tender_is; lines = said line (c.put_answer-length.ensures _); given = left.given }))
