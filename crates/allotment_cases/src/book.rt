@@ -1,7 +1,7 @@
 // The bids of a case, in book order, and the credit limits of its counterparties.
 
 // Rates and amounts of 640 places: those of counterparty k, from 0 on, begin at 10 k, and its limit is the one at k.
-#[derive(Drop)]
+#[derive(Clone, Copy)]
 pub struct Bids {
     pub rates: [u32; 640],
     pub amounts: [u64; 640],

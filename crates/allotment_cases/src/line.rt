@@ -7,54 +7,56 @@ use announcement::Side;
 use marginal::MarginalRate;
 use offer::Offer;
 use places::{Amount, Rate};
+use std::io;
 
 // The sum of awards, and how many are above zero.
-#[derive(Drop)]
+#[derive(Clone, Copy)]
 struct Summary {
     sum: u64,
     count: u64,
 }
 
 // An award above zero, with its place.
-fn print_award(place: usize, cents: u64) {
+fn print_award(rt: &impl Print, place: usize, cents: u64) -> io::Result<()> {
     if cents == 0 {
-        return;
+        return Ok(());
     }
-    printing::number(place as u64);
-    printing::text(b":");
-    io::print_decimal(1, cents);
+    printing::number(rt, place as u64)?;
+    print!(rt; ":{cents}")
 }
 
-fn print_marginal_rate(m: MarginalRate) {
+fn print_marginal_rate(rt: &impl Print, m: MarginalRate) -> io::Result<()> {
     match m {
         MarginalRate::At(rate) => {
-            printing::text(b" rate");
-            printing::number(rate.0 as u64);
+            printing::text(rt, b" rate")?;
+            printing::number(rt, rate.0 as u64)?;
         }
-        MarginalRate::None => printing::text(b" none"),
+        MarginalRate::None => printing::text(rt, b" none")?,
     }
-    printing::end();
+    printing::end(rt)
 }
 
-fn print_refusal(exceeds: bool) {
+fn print_refusal(rt: &impl Print, exceeds: bool) -> io::Result<()> {
     if exceeds {
-        printing::text(b" exceeds");
+        printing::text(rt, b" exceeds")?;
     }
+    Ok(())
 }
 
-fn print_awards(awards: &[u64]) {
+fn print_awards(rt: &impl Print, awards: &[u64]) -> io::Result<()> {
     let mut i = 0;
     while i < awards.len() {
-        print_award(i, awards[i]);
+        print_award(rt, i, awards[i])?;
         i += 1;
     }
+    Ok(())
 }
 
 // The summary with one more award; the amount offered bounds the sum.
 fn counted(s: Summary, cents: u64) -> Summary {
     Summary {
-        sum: std::num::wrapping_add_u64(s.sum, cents),
-        count: std::num::wrapping_add_u64(s.count, (0 < cents) as u64),
+        sum: s.sum.wrapping_add(cents),
+        count: s.count.wrapping_add((0 < cents) as u64),
     }
 }
 
@@ -70,13 +72,14 @@ fn summarise(awards: &[u64]) -> Summary {
 
 // Allots, writes the awards, and prints the name and whether condition 16 refuses.
 fn begin(
+    rt: &impl Print,
     name: &[u8],
     side: Side,
     limit: u32,
     offered: u64,
     b: Bids,
     awards: &mut [u64],
-) -> MarginalRate
+) -> io::Result<MarginalRate>
     requires { length awards.old ≡ 640 }
 {
     let o = Offer {
@@ -88,29 +91,43 @@ fn begin(
     let amounts = b.amounts;
     let limits = b.limits;
     let a = allot(o, &limits, &rates, &amounts, awards);
-    printing::text(name);
-    print_refusal(a.exceeds);
-    a.marginal
+    printing::text(rt, name)?;
+    print_refusal(rt, a.exceeds)?;
+    Ok(a.marginal)
 }
 
 // A case with each of its awards.
-pub fn case(name: &[u8], side: Side, limit: u32, offered: u64, b: Bids) {
+pub fn case(
+    rt: &impl Print,
+    name: &[u8],
+    side: Side,
+    limit: u32,
+    offered: u64,
+    b: Bids,
+) -> io::Result<()> {
     let mut awards = [0u64; 640];
-    let marginal = begin(name, side, limit, offered, b, &mut awards);
-    print_awards(&awards);
-    print_marginal_rate(marginal);
+    let marginal = begin(rt, name, side, limit, offered, b, &mut awards)?;
+    print_awards(rt, &awards)?;
+    print_marginal_rate(rt, marginal)
 }
 
 // A case with too many awards to print each of them: their sum, how many there are, and those at the first and the last place.
-pub fn summed(name: &[u8], side: Side, limit: u32, offered: u64, b: Bids) {
+pub fn summed(
+    rt: &impl Print,
+    name: &[u8],
+    side: Side,
+    limit: u32,
+    offered: u64,
+    b: Bids,
+) -> io::Result<()> {
     let mut awards = [0u64; 640];
-    let marginal = begin(name, side, limit, offered, b, &mut awards);
+    let marginal = begin(rt, name, side, limit, offered, b, &mut awards)?;
     let s = summarise(&awards);
-    printing::text(b" sum");
-    printing::number(s.sum);
-    printing::text(b" awards");
-    printing::number(s.count);
-    print_award(0, awards[0]);
-    print_award(639, awards[639]);
-    print_marginal_rate(marginal);
+    printing::text(rt, b" sum")?;
+    printing::number(rt, s.sum)?;
+    printing::text(rt, b" awards")?;
+    printing::number(rt, s.count)?;
+    print_award(rt, 0, awards[0])?;
+    print_award(rt, 639, awards[639])?;
+    print_marginal_rate(rt, marginal)
 }

@@ -1,5 +1,7 @@
 // Cases of an allotment that run instead of being proved. What is printed is held to the file stdout,
 // which was calculated from documents 01 and 02 by other means than this library.
+#![tactic(auto)]
+
 mod book;
 mod limits;
 mod line;
@@ -9,20 +11,22 @@ mod most;
 mod rates;
 mod sharing;
 
-fn main() {
-    marked::marked();
-    marked::example();
-    many::full_books();
-    sharing::met();
-    sharing::cents();
-    sharing::whole_shares();
-    rates::limit();
-    rates::fine_and_zero();
-    rates::ends();
-    most::sums();
-    limits::one_code();
-    limits::met();
-    limits::two_codes();
-    limits::dropped();
-    limits::every_code();
+use std::io;
+
+fn main(rt: HostRuntime) -> io::Result<()> {
+    marked::marked(&rt)?;
+    marked::example(&rt)?;
+    many::full_books(&rt)?;
+    sharing::met(&rt)?;
+    sharing::cents(&rt)?;
+    sharing::whole_shares(&rt)?;
+    rates::limit(&rt)?;
+    rates::fine_and_zero(&rt)?;
+    rates::ends(&rt)?;
+    most::sums(&rt)?;
+    limits::one_code(&rt)?;
+    limits::met(&rt)?;
+    limits::two_codes(&rt)?;
+    limits::dropped(&rt)?;
+    limits::every_code(&rt)
 }

@@ -2,6 +2,7 @@
 use crate::book::Bids;
 use crate::line::summed;
 use announcement::Side;
+use std::io;
 
 const WIDEST: u64 = 999_999_999_999_999;
 
@@ -9,14 +10,14 @@ const WIDEST: u64 = 999_999_999_999_999;
 const HALF: u64 = 319_999_999_999_999_685;
 
 // One bid's amount shared by 640; then at 640 rates an offer that the best bid meets, and one that half of them nearly do.
-pub fn full_books() {
+pub fn full_books(rt: &impl Print) -> io::Result<()> {
     let level = Bids {
         rates: [120000u32; 640],
         amounts: [WIDEST; 640],
         limits: [0u64; 64],
     };
     let rising = Bids::at_rising_rates(WIDEST);
-    summed(b"one rate", Side::Lp, 120000, WIDEST, level);
-    summed(b"640 rates LP", Side::Lp, 0, WIDEST, rising);
-    summed(b"320 rates LA", Side::La, 640000, HALF, rising);
+    summed(rt, b"one rate", Side::Lp, 120000, WIDEST, level)?;
+    summed(rt, b"640 rates LP", Side::Lp, 0, WIDEST, rising)?;
+    summed(rt, b"320 rates LA", Side::La, 640000, HALF, rising)
 }

@@ -2,6 +2,7 @@
 use crate::book::Bids;
 use crate::line::case;
 use announcement::Side;
+use std::io;
 
 const MOST: u64 = 999_999_999_999_999_999;
 
@@ -16,19 +17,20 @@ fn two(first: u64, second: u64) -> Bids {
 }
 
 // More than that: two sums that wrap in 64 bits, and one cent too many with a bid that is out; then exactly that, in full and shared.
-pub fn sums() {
+pub fn sums(rt: &impl Print) -> io::Result<()> {
     let b = Bids::none()
         .bid(0, 120000, 600_000_000_000_000_001)
         .bid(10, 120000, 399_999_999_999_999_998);
     case(
+        rt,
         b"two largest",
         Side::Lp,
         100000,
         100000,
         two(LARGEST, LARGEST),
-    );
-    case(b"two halves", Side::Lp, 100000, 100000, two(HALF, HALF));
-    case(b"one cent more", Side::Lp, 100000, 100000, two(1, MOST));
-    case(b"most", Side::Lp, 0, LARGEST, two(1, MOST - 1));
-    case(b"most shared", Side::La, 200000, MOST - 1, b);
+    )?;
+    case(rt, b"two halves", Side::Lp, 100000, 100000, two(HALF, HALF))?;
+    case(rt, b"one cent more", Side::Lp, 100000, 100000, two(1, MOST))?;
+    case(rt, b"most", Side::Lp, 0, LARGEST, two(1, MOST - 1))?;
+    case(rt, b"most shared", Side::La, 200000, MOST - 1, b)
 }

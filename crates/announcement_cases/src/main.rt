@@ -1,9 +1,11 @@
 // Cases of a 6G0 that run instead of being proved. What is printed is held to the file stdout,
 // which was written from document 01.
+#![tactic(auto)]
 
 use announcement::{
     Announcement, Characteristics, Field, Kind, References, Side, bytes, dates_ordered, read,
 };
+use std::io;
 
 // Document 01's tender, with another byte at an index.
 fn message(at: usize, b: u8) -> [u8; 225] {
@@ -17,144 +19,150 @@ fn message(at: usize, b: u8) -> [u8; 225] {
     m
 }
 
-fn references(r: References) {
+fn references(rt: &impl Print, r: References) -> io::Result<()> {
     let sender = r.sender;
     let recipient = r.recipient;
     let cro = r.cro;
     let date = r.date;
     let time = r.time;
-    printing::digits(sender);
-    printing::digits(recipient);
-    printing::digits(cro);
-    printing::digits(date);
-    printing::digits(time);
+    printing::digits(rt, sender)?;
+    printing::digits(rt, recipient)?;
+    printing::digits(rt, cro)?;
+    printing::digits(rt, date)?;
+    printing::digits(rt, time)
 }
 
-fn side(s: Side) {
+fn side(rt: &impl Print, s: Side) -> io::Result<()> {
     match s {
-        Side::La => printing::text(b" LA"),
-        Side::Lp => printing::text(b" LP"),
+        Side::La => printing::text(rt, b" LA"),
+        Side::Lp => printing::text(rt, b" LP"),
     }
 }
 
-fn kind(k: Kind) {
+fn kind(rt: &impl Print, k: Kind) -> io::Result<()> {
     match k {
         Kind::Tender(s, yes) => {
-            side(s);
-            printing::yes(yes);
+            side(rt, s)?;
+            printing::yes(rt, yes)
         }
-        Kind::Unknown => printing::text(b" none"),
+        Kind::Unknown => printing::text(rt, b" none"),
     }
 }
 
-fn characteristics(c: Characteristics) {
+fn characteristics(rt: &impl Print, c: Characteristics) -> io::Result<()> {
     let limit = c.limit;
-    printing::yes(c.formed);
-    printing::number(c.execution);
-    printing::number(c.most);
-    printing::number(c.offered.0);
-    printing::number(c.minimum.0);
-    printing::number(c.increment.0);
-    printing::number(c.maximum.0);
-    printing::number(c.allocation.0);
-    printing::number(limit.0 as u64);
+    printing::yes(rt, c.formed)?;
+    printing::number(rt, c.execution)?;
+    printing::number(rt, c.most)?;
+    printing::number(rt, c.offered.0)?;
+    printing::number(rt, c.minimum.0)?;
+    printing::number(rt, c.increment.0)?;
+    printing::number(rt, c.maximum.0)?;
+    printing::number(rt, c.allocation.0)?;
+    printing::number(rt, limit.0 as u64)
 }
 
-fn announcement(a: Announcement) {
+fn announcement(rt: &impl Print, a: Announcement) -> io::Result<()> {
     let r = a.references;
     let k = a.kind;
     let c = a.characteristics;
     let spot = a.spot;
     let forward = a.forward;
     let cutoff = a.cutoff;
-    references(r);
-    printing::yes(a.identified);
-    kind(k);
-    characteristics(c);
-    printing::digits(spot);
-    printing::digits(forward);
-    printing::digits(cutoff);
+    references(rt, r)?;
+    printing::yes(rt, a.identified)?;
+    kind(rt, k)?;
+    characteristics(rt, c)?;
+    printing::digits(rt, spot)?;
+    printing::digits(rt, forward)?;
+    printing::digits(rt, cutoff)
 }
 
 // What the message says with another byte at an index.
-fn case(name: &[u8], at: usize, b: u8) {
+fn case(rt: &impl Print, name: &[u8], at: usize, b: u8) -> io::Result<()> {
     let m = message(at, b);
     let r = read(&m);
     let a = r.announcement;
-    printing::text(name);
-    printing::yes(r.readable);
-    announcement(a);
-    printing::end();
+    printing::text(rt, name)?;
+    printing::yes(rt, r.readable)?;
+    announcement(rt, a)?;
+    printing::end(rt)
 }
 
 // The fields and what is said of them: as it is, then one byte altered at a time.
-fn fields() {
-    case(b"valid", 0, 1);
-    case(b"tag", 0, 2);
-    case(b"length", 2, 4);
-    case(b"sender", 9, 32);
-    case(b"identifier", 60, 45);
-    case(b"LA", 80, 65);
-    case(b"N", 84, 78);
-    case(b"lower case", 84, 121);
+fn fields(rt: &impl Print) -> io::Result<()> {
+    case(rt, b"valid", 0, 1)?;
+    case(rt, b"tag", 0, 2)?;
+    case(rt, b"length", 2, 4)?;
+    case(rt, b"sender", 9, 32)?;
+    case(rt, b"identifier", 60, 45)?;
+    case(rt, b"LA", 80, 65)?;
+    case(rt, b"N", 84, 78)?;
+    case(rt, b"lower case", 84, 121)
 }
 
 // The characteristics: a slash and a digit altered, then numbers that are other numbers.
-fn parts() {
-    case(b"slash", 102, 32);
-    case(b"colon", 193, 58);
-    case(b"most", 103, 57);
-    case(b"limit", 186, 57);
-    case(b"no date", 94, 57);
-    case(b"five decimals", 193, 49);
-    case(b"minimum allocation", 170, 57);
+fn parts(rt: &impl Print) -> io::Result<()> {
+    case(rt, b"slash", 102, 32)?;
+    case(rt, b"colon", 193, 58)?;
+    case(rt, b"most", 103, 57)?;
+    case(rt, b"limit", 186, 57)?;
+    case(rt, b"no date", 94, 57)?;
+    case(rt, b"five decimals", 193, 49)?;
+    case(rt, b"minimum allocation", 170, 57)
 }
 
 // Fields of digits that are no date and no time: D31, 601, spot date, forward date, cut-off.
-fn no_dates() {
-    case(b"D31", 39, 57);
-    case(b"601", 50, 57);
-    case(b"spot date", 197, 57);
-    case(b"forward date", 208, 57);
-    case(b"cut-off", 219, 57);
+fn no_dates(rt: &impl Print) -> io::Result<()> {
+    case(rt, b"D31", 39, 57)?;
+    case(rt, b"601", 50, 57)?;
+    case(rt, b"spot date", 197, 57)?;
+    case(rt, b"forward date", 208, 57)?;
+    case(rt, b"cut-off", 219, 57)
 }
 
-fn length(m: &[u8]) {
-    printing::text(b"length");
-    printing::number(m.len() as u64);
-    printing::yes(read(m).readable);
-    printing::text(bytes(m, Field::TenderType));
-    printing::end();
+fn length(rt: &impl Print, m: &[u8]) -> io::Result<()> {
+    printing::text(rt, b"length")?;
+    printing::number(rt, m.len() as u64)?;
+    printing::yes(rt, read(m).readable)?;
+    printing::text(rt, bytes(m, Field::TenderType))?;
+    printing::end(rt)
 }
 
 // 225 bytes are readable; one fewer is not, and neither are none.
-fn lengths() {
+fn lengths(rt: &impl Print) -> io::Result<()> {
     let m = message(0, 1);
-    length(&m);
-    length(&m[0..224]);
-    length(b"");
+    length(rt, &m)?;
+    length(rt, &m[0..224])?;
+    length(rt, b"")
 }
 
-fn dates(reference: u64, execution: u64, spot: u64, forward: u64) {
-    printing::yes(dates_ordered(reference, execution, spot, forward));
+fn dates(
+    rt: &impl Print,
+    reference: u64,
+    execution: u64,
+    spot: u64,
+    forward: u64,
+) -> io::Result<()> {
+    printing::yes(rt, dates_ordered(reference, execution, spot, forward))
 }
 
 // Equal dates, and dates whose order as numbers is another.
-fn order() {
-    printing::text(b"order");
-    dates(12032012, 12032012, 12032012, 13032012);
-    dates(13032012, 12032012, 14032012, 15032012);
-    dates(11032012, 12032012, 11032012, 15032012);
-    dates(11032012, 12032012, 14032012, 14032012);
-    dates(31012012, 1022012, 2022012, 1032012);
-    dates(1022012, 31012012, 2022012, 1032012);
-    printing::end();
+fn order(rt: &impl Print) -> io::Result<()> {
+    printing::text(rt, b"order")?;
+    dates(rt, 12032012, 12032012, 12032012, 13032012)?;
+    dates(rt, 13032012, 12032012, 14032012, 15032012)?;
+    dates(rt, 11032012, 12032012, 11032012, 15032012)?;
+    dates(rt, 11032012, 12032012, 14032012, 14032012)?;
+    dates(rt, 31012012, 1022012, 2022012, 1032012)?;
+    dates(rt, 1022012, 31012012, 2022012, 1032012)?;
+    printing::end(rt)
 }
 
-fn main() {
-    fields();
-    parts();
-    no_dates();
-    lengths();
-    order();
+fn main(rt: HostRuntime) -> io::Result<()> {
+    fields(&rt)?;
+    parts(&rt)?;
+    no_dates(&rt)?;
+    lengths(&rt)?;
+    order(&rt)
 }

@@ -2,6 +2,7 @@
 use crate::message;
 use addresses::Address;
 use envelope::application::{read, write};
+use std::io;
 
 // A branch of the sender.
 fn sender(branch: u64) -> Address {
@@ -14,27 +15,27 @@ fn recipient() -> Address {
 }
 
 // What an address was read as.
-fn address(a: Address) {
+fn address(rt: &impl Print, a: Address) -> io::Result<()> {
     match a {
-        Address::Malformed => printing::text(b" none"),
-        Address::Code(code) => printing::number(code),
+        Address::Malformed => printing::text(rt, b" none"),
+        Address::Code(code) => printing::number(rt, code),
         Address::Branch(code, branch, first, second) => {
             let text = [b' ', first, second];
-            printing::number(code);
-            printing::number(branch);
-            printing::text(&text);
+            printing::number(rt, code)?;
+            printing::number(rt, branch)?;
+            printing::text(rt, &text)
         }
     }
 }
 
 // The sender and the recipient of a message.
-fn both(m: &[u8]) {
+fn both(rt: &impl Print, m: &[u8]) -> io::Result<()> {
     let f = read(m).fields;
     let from = f.sender;
     let to = f.recipient;
-    address(from);
-    address(to);
-    printing::end();
+    address(rt, from)?;
+    address(rt, to)?;
+    printing::end(rt)
 }
 
 // The refusal of the message between two addresses, written into a space.
@@ -50,38 +51,40 @@ fn write_into(space: &mut [u8], from: Address, to: Address) -> u64 {
 }
 
 // What a writing left in the first n bytes: its refusal, and what is read from them.
-fn outcome(n: usize, refusal: u64, space: [u8; 357]) {
-    printing::text(b"addresses");
-    printing::number(n as u64);
-    printing::number(refusal);
+fn outcome(rt: &impl Print, n: usize, refusal: u64, space: [u8; 357]) -> io::Result<()> {
+    printing::text(rt, b"addresses")?;
+    printing::number(rt, n as u64)?;
+    printing::number(rt, refusal)?;
     if n <= 357 {
-        both(&space[0..n]);
+        both(rt, &space[0..n])?;
     }
+    Ok(())
 }
 
 // Writes the message between two addresses into n bytes.
-fn written(from: Address, to: Address, n: usize) {
+fn written(rt: &impl Print, from: Address, to: Address, n: usize) -> io::Result<()> {
     let mut space = [170u8; 357];
     if n <= 357 {
         let refusal = write_into(&mut space[0..n], from, to);
-        outcome(n, refusal, space);
+        outcome(rt, n, refusal, space)?;
     }
+    Ok(())
 }
 
 // Each form by itself, with one byte too few and with enough; a branch of six digits.
-pub fn spaces() {
+pub fn spaces(rt: &impl Print) -> io::Result<()> {
     let code = Address::Code(90002);
     let treasury = Address::Code(1000);
-    written(sender(117), recipient(), 356);
-    written(sender(117), recipient(), 357);
-    written(sender(117), treasury, 347);
-    written(sender(117), treasury, 348);
-    written(code, recipient(), 347);
-    written(code, recipient(), 348);
-    written(code, treasury, 338);
-    written(code, treasury, 339);
-    written(sender(99999), treasury, 348);
-    written(sender(100000), treasury, 347);
+    written(rt, sender(117), recipient(), 356)?;
+    written(rt, sender(117), recipient(), 357)?;
+    written(rt, sender(117), treasury, 347)?;
+    written(rt, sender(117), treasury, 348)?;
+    written(rt, code, recipient(), 347)?;
+    written(rt, code, recipient(), 348)?;
+    written(rt, code, treasury, 338)?;
+    written(rt, code, treasury, 339)?;
+    written(rt, sender(99999), treasury, 348)?;
+    written(rt, sender(100000), treasury, 347)
 }
 
 // The message between branches.
@@ -101,21 +104,21 @@ fn with(at: usize, b: u8) -> [u8; 357] {
 }
 
 // What is read of it then.
-fn altered(at: usize, b: u8) {
+fn altered(rt: &impl Print, at: usize, b: u8) -> io::Result<()> {
     let m = with(at, b);
-    printing::text(b"branch byte");
-    printing::number(at as u64);
-    printing::number(message::refusal(&m));
-    both(&m);
+    printing::text(rt, b"branch byte")?;
+    printing::number(rt, at as u64)?;
+    printing::number(rt, message::refusal(&m))?;
+    both(rt, &m)
 }
 
 // The bytes of the sender: the code, a slash, the branch, a slash and two characters; then its head and the recipient's slash.
-pub fn bytes() {
-    altered(13, b'x');
-    altered(14, b'-');
-    altered(15, b' ');
-    altered(20, b'0');
-    altered(21, 0);
-    altered(8, 5);
-    altered(31, b'x');
+pub fn bytes(rt: &impl Print) -> io::Result<()> {
+    altered(rt, 13, b'x')?;
+    altered(rt, 14, b'-')?;
+    altered(rt, 15, b' ')?;
+    altered(rt, 20, b'0')?;
+    altered(rt, 21, 0)?;
+    altered(rt, 8, 5)?;
+    altered(rt, 31, b'x')
 }

@@ -1,5 +1,7 @@
 // Cases of the envelope that run instead of being proved. What is printed is held to the file
 // stdout, which was written from document 01.
+#![tactic(auto)]
+
 mod branches;
 mod message;
 mod numbers;
@@ -7,22 +9,24 @@ mod reading;
 mod times;
 mod writing;
 
-fn main() {
-    reading::valid();
-    reading::nines();
-    reading::heads();
-    reading::contents();
-    reading::lengths();
-    numbers::fields();
-    numbers::places();
-    writing::numbers();
-    writing::texts();
-    writing::identifiers();
-    writing::kinds();
-    writing::spaces();
-    branches::spaces();
-    branches::bytes();
-    times::dates();
-    times::hours();
-    times::order();
+use std::io;
+
+fn main(rt: HostRuntime) -> io::Result<()> {
+    reading::valid(&rt)?;
+    reading::nines(&rt)?;
+    reading::heads(&rt)?;
+    reading::contents(&rt)?;
+    reading::lengths(&rt)?;
+    numbers::fields(&rt)?;
+    numbers::places(&rt)?;
+    writing::numbers(&rt)?;
+    writing::texts(&rt)?;
+    writing::identifiers(&rt)?;
+    writing::kinds(&rt)?;
+    writing::spaces(&rt)?;
+    branches::spaces(&rt)?;
+    branches::bytes(&rt)?;
+    times::dates(&rt)?;
+    times::hours(&rt)?;
+    times::order(&rt)
 }

@@ -5,6 +5,7 @@ use crate::message;
 use digits::Digits;
 use envelope::application::{Fields, read};
 use places::{Amount, Rate};
+use std::io;
 
 // A digit field: the index of its first byte, and that of its last.
 const FIRST: [usize; 6] = [9, 17, 25, 39, 50, 59];
@@ -53,49 +54,50 @@ fn known(f: Fields) -> u64 {
 }
 
 // What field k reads as with another byte at an index, and how many of the six have a number.
-fn altered(k: usize, at: usize, b: u8) {
+fn altered(rt: &impl Print, k: usize, at: usize, b: u8) -> io::Result<()> {
     let m = message::with(at, b);
     let f = read(&m).fields;
-    printing::digits(field(f, k));
-    printing::number(known(f));
+    printing::digits(rt, field(f, k))?;
+    printing::number(rt, known(f))
 }
 
 // Digit field k with another byte, at its first and at its last position.
-fn digit_field(k: usize, first: usize, last: usize, b: u8) {
-    printing::text(b"digit field");
-    printing::number(k as u64);
-    printing::number(b as u64);
-    altered(k, first, b);
-    altered(k, last, b);
-    printing::end();
+fn digit_field(rt: &impl Print, k: usize, first: usize, last: usize, b: u8) -> io::Result<()> {
+    printing::text(rt, b"digit field")?;
+    printing::number(rt, k as u64)?;
+    printing::number(rt, b as u64)?;
+    altered(rt, k, first, b)?;
+    altered(rt, k, last, b)?;
+    printing::end(rt)
 }
 
 // Each digit field with each byte that is no digit.
-pub fn fields() {
+pub fn fields(rt: &impl Print) -> io::Result<()> {
     let first = FIRST;
     let last = LAST;
     let other = OTHER;
     let mut k: usize = 0;
     while k < 30 {
         let i = k / 5;
-        digit_field(i, first[i], last[i], other[k % 5]);
+        digit_field(rt, i, first[i], last[i], other[k % 5])?;
         k += 1;
     }
+    Ok(())
 }
 
 // The numbers of one place, where it is well formed.
-fn numbers_of(formed: bool, rate: Rate, amount: Amount) {
+fn numbers_of(rt: &impl Print, formed: bool, rate: Rate, amount: Amount) -> io::Result<()> {
     if formed {
-        printing::number(rate.0 as u64);
-        printing::text(b"/");
-        printing::number(amount.0);
+        printing::number(rt, rate.0 as u64)?;
+        printing::text(rt, b"/")?;
+        printing::number(rt, amount.0)
     } else {
-        printing::text(b" none");
+        printing::text(rt, b" none")
     }
 }
 
 // The ten places with another byte at an index: well formed or not, each by itself.
-fn place(at: usize, b: u8) {
+fn place(rt: &impl Print, at: usize, b: u8) -> io::Result<()> {
     let m = message::with(at, b);
     let p = read(&m).fields.places;
     let formed = p.formed;
@@ -105,18 +107,18 @@ fn place(at: usize, b: u8) {
     while k < 10 {
         let rate = rates[k];
         let amount = amounts[k];
-        numbers_of(formed[k], rate, amount);
+        numbers_of(rt, formed[k], rate, amount)?;
         k += 1;
     }
-    printing::end();
+    printing::end(rt)
 }
 
 // The places as they are; one with a blank for its slash, one with a blank in its rate, one with a
 // colon at the end of its amount, and one whose slash stands for a digit.
-pub fn places() {
-    place(81, 48);
-    place(81 + 24 * 3 + 8, 32);
-    place(81, 32);
-    place(320, 58);
-    place(81 + 24 * 9 + 9, 47);
+pub fn places(rt: &impl Print) -> io::Result<()> {
+    place(rt, 81, 48)?;
+    place(rt, 81 + 24 * 3 + 8, 32)?;
+    place(rt, 81, 32)?;
+    place(rt, 320, 58)?;
+    place(rt, 81 + 24 * 9 + 9, 47)
 }

@@ -3,9 +3,10 @@ ghost use Rattle.std.specs.Prelude.{◌<◌};
 
 use crate::message;
 use envelope::application::{Field, bytes, read};
+use std::io;
 
 // The refusal of a message and its digit fields.
-fn numbers(name: &[u8], m: &[u8]) {
+fn numbers(rt: &impl Print, name: &[u8], m: &[u8]) -> io::Result<()> {
     let f = read(m).fields;
     let sender = f.sender;
     let recipient = f.recipient;
@@ -13,36 +14,36 @@ fn numbers(name: &[u8], m: &[u8]) {
     let date = f.date;
     let time = f.time;
     let check = f.check;
-    printing::text(name);
-    printing::number(message::refusal(m));
-    printing::digits(message::code(sender));
-    printing::digits(message::code(recipient));
-    printing::digits(cro);
-    printing::digits(date);
-    printing::digits(time);
-    printing::digits(check);
-    printing::end();
+    printing::text(rt, name)?;
+    printing::number(rt, message::refusal(m))?;
+    printing::digits(rt, message::code(sender))?;
+    printing::digits(rt, message::code(recipient))?;
+    printing::digits(rt, cro)?;
+    printing::digits(rt, date)?;
+    printing::digits(rt, time)?;
+    printing::digits(rt, check)?;
+    printing::end(rt)
 }
 
 // The bytes of a message's texts.
-fn texts(m: &[u8]) {
-    printing::text(bytes(m, Field::MessageType));
-    printing::text(bytes(m, Field::Identifier));
-    printing::text(bytes(m, Field::Bids));
-    printing::text(bytes(m, Field::Name));
-    printing::end();
+fn texts(rt: &impl Print, m: &[u8]) -> io::Result<()> {
+    printing::text(rt, bytes(m, Field::MessageType))?;
+    printing::text(rt, bytes(m, Field::Identifier))?;
+    printing::text(rt, bytes(m, Field::Bids))?;
+    printing::text(rt, bytes(m, Field::Name))?;
+    printing::end(rt)
 }
 
 // The valid message: its refusal, its digit fields and the bytes of its texts.
-pub fn valid() {
+pub fn valid(rt: &impl Print) -> io::Result<()> {
     let m = message::bytes();
-    numbers(b"valid", &m);
-    texts(&m);
+    numbers(rt, b"valid", &m)?;
+    texts(rt, &m)
 }
 
 // Digits have their number, also those of a D31 that is no date and a 601 that is no time.
-pub fn nines() {
-    numbers(b"nines", &message::of_nines());
+pub fn nines(rt: &impl Print) -> io::Result<()> {
+    numbers(rt, b"nines", &message::of_nines())
 }
 
 // A byte raised by one, and 255 made 0.
@@ -61,38 +62,38 @@ fn raised(at: usize) -> u64 {
 }
 
 // One tag or length byte altered.
-fn head_byte(at: usize) {
-    printing::text(b"head byte");
-    printing::number(at as u64);
-    printing::number(raised(at));
-    printing::end();
+fn head_byte(rt: &impl Print, at: usize) -> io::Result<()> {
+    printing::text(rt, b"head byte")?;
+    printing::number(rt, at as u64)?;
+    printing::number(rt, raised(at))?;
+    printing::end(rt)
 }
 
 // The tag byte of a field, which stands at an index, and its two length bytes altered in turn.
-fn head(at: usize)
+fn head(rt: &impl Print, at: usize) -> io::Result<()>
     requires { at < 339 }
 {
-    head_byte(at);
-    head_byte(at + 1);
-    head_byte(at + 2);
+    head_byte(rt, at)?;
+    head_byte(rt, at + 1)?;
+    head_byte(rt, at + 2)
 }
 
 // Each of the 30 tag and length bytes altered in turn: 12.
-pub fn heads() {
-    head(0);
-    head(6);
-    head(14);
-    head(22);
-    head(36);
-    head(47);
-    head(56);
-    head(64);
-    head(78);
-    head(321);
+pub fn heads(rt: &impl Print) -> io::Result<()> {
+    head(rt, 0)?;
+    head(rt, 6)?;
+    head(rt, 14)?;
+    head(rt, 22)?;
+    head(rt, 36)?;
+    head(rt, 47)?;
+    head(rt, 56)?;
+    head(rt, 64)?;
+    head(rt, 78)?;
+    head(rt, 321)
 }
 
 // How many bytes can be altered one by one and leave the message readable: the 309 of the contents.
-pub fn contents() {
+pub fn contents(rt: &impl Print) -> io::Result<()> {
     let mut readable: u64 = 0;
     let mut at = 0;
     while at < 339 {
@@ -101,13 +102,13 @@ pub fn contents() {
         }
         at += 1;
     }
-    printing::text(b"altered and readable");
-    printing::number(readable);
-    printing::end();
+    printing::text(rt, b"altered and readable")?;
+    printing::number(rt, readable)?;
+    printing::end(rt)
 }
 
 // Every length from 0 to 400, the message and then zeros: the readable ones, and how many are refused.
-pub fn lengths() {
+pub fn lengths(rt: &impl Print) -> io::Result<()> {
     let m = message::bytes();
     let mut long = [0u8; 401];
     let mut i = 0;
@@ -115,31 +116,31 @@ pub fn lengths() {
         long[i] = m[i];
         i += 1;
     }
-    lengths_of(&long);
+    lengths_of(rt, &long)
 }
 
 // Whether a message is readable; its length is printed where it is.
-fn readable_length(m: &[u8]) -> bool {
+fn readable_length(rt: &impl Print, m: &[u8]) -> io::Result<bool> {
     let readable = message::refusal(m) == 0;
     if readable {
-        printing::text(b"readable length");
-        printing::number(m.len() as u64);
-        printing::end();
+        printing::text(rt, b"readable length")?;
+        printing::number(rt, m.len() as u64)?;
+        printing::end(rt)?;
     }
-    readable
+    Ok(readable)
 }
 
 // Every length below that of a text: the readable ones, and how many are refused.
-fn lengths_of(long: &[u8]) {
+fn lengths_of(rt: &impl Print, long: &[u8]) -> io::Result<()> {
     let mut refused: u64 = 0;
     let mut n = 0;
     while n < long.len() {
-        if !readable_length(&long[..n]) {
+        if !readable_length(rt, &long[..n])? {
             refused += 1;
         }
         n += 1;
     }
-    printing::text(b"refused lengths");
-    printing::number(refused);
-    printing::end();
+    printing::text(rt, b"refused lengths")?;
+    printing::number(rt, refused)?;
+    printing::end(rt)
 }

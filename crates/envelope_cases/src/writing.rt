@@ -3,6 +3,7 @@ use crate::message;
 use addresses::Address;
 use envelope::application::{Application, write};
 use places::{Amount, Rate};
+use std::io;
 
 // The least number that is too wide: of the six fields, of a rate and of an amount.
 const LIMITS: [u64; 8] = [
@@ -87,75 +88,76 @@ fn number_refusal(a: Application) -> u64 {
 }
 
 // Number k at its widest and one wider.
-fn number(k: usize) {
+fn number(rt: &impl Print, k: usize) -> io::Result<()> {
     let n = limit(k);
-    printing::text(b"number");
-    printing::number(k as u64);
+    printing::text(rt, b"number")?;
+    printing::number(rt, k as u64)?;
     if 0 < n {
-        printing::number(number_refusal(changed(k, n - 1)));
+        printing::number(rt, number_refusal(changed(k, n - 1)))?;
     }
-    printing::number(number_refusal(changed(k, n)));
-    printing::end();
+    printing::number(rt, number_refusal(changed(k, n)))?;
+    printing::end(rt)
 }
 
 // Each number at its widest and one wider.
-pub fn numbers() {
+pub fn numbers(rt: &impl Print) -> io::Result<()> {
     let mut k = 0;
     while k < 26 {
-        number(k);
+        number(rt, k)?;
         k += 1;
     }
+    Ok(())
 }
 
 // The refusal of the message with these texts.
-fn written_with(kind: &[u8], identifier: &[u8], name: &[u8]) {
-    printing::number(refusal(message::application(), kind, identifier, name));
+fn written_with(rt: &impl Print, kind: &[u8], identifier: &[u8], name: &[u8]) -> io::Result<()> {
+    printing::number(rt, refusal(message::application(), kind, identifier, name))
 }
 
 // The refusal of the message with another type.
-fn with_kind(kind: &[u8]) {
-    written_with(kind, b"T/2012/0001", b"CONTACT \x00 \xff end");
+fn with_kind(rt: &impl Print, kind: &[u8]) -> io::Result<()> {
+    written_with(rt, kind, b"T/2012/0001", b"CONTACT \x00 \xff end")
 }
 
 // The refusal of the message with another identifier.
-fn with_identifier(identifier: &[u8]) {
-    written_with(b"6G1", identifier, b"CONTACT \x00 \xff end");
+fn with_identifier(rt: &impl Print, identifier: &[u8]) -> io::Result<()> {
+    written_with(rt, b"6G1", identifier, b"CONTACT \x00 \xff end")
 }
 
 // The refusal of the message with another name.
-fn with_name(name: &[u8]) {
-    written_with(b"6G1", b"T/2012/0001", name);
+fn with_name(rt: &impl Print, name: &[u8]) -> io::Result<()> {
+    written_with(rt, b"6G1", b"T/2012/0001", name)
 }
 
 // Each text one short and one long.
-pub fn texts() {
-    printing::text(b"texts");
-    with_kind(b"6G");
-    with_kind(b"6G1 ");
-    with_identifier(b"T/2012/001");
-    with_identifier(b"T/2012/00001");
-    with_name(b"CONTACT \x00 \xff en");
-    with_name(b"CONTACT \x00 \xff end ");
-    printing::end();
+pub fn texts(rt: &impl Print) -> io::Result<()> {
+    printing::text(rt, b"texts")?;
+    with_kind(rt, b"6G")?;
+    with_kind(rt, b"6G1 ")?;
+    with_identifier(rt, b"T/2012/001")?;
+    with_identifier(rt, b"T/2012/00001")?;
+    with_name(rt, b"CONTACT \x00 \xff en")?;
+    with_name(rt, b"CONTACT \x00 \xff end ")?;
+    printing::end(rt)
 }
 
 // Malformed identifiers, and a well formed one.
-pub fn identifiers() {
-    printing::text(b"identifiers");
-    with_identifier(b"t/2012/0001");
-    with_identifier(b"T-2012/0001");
-    with_identifier(b"T/ 012/0001");
-    with_identifier(b"T/2012 0001");
-    with_identifier(b"T/2012/000:");
-    with_identifier(b"T/0000/9999");
-    printing::end();
+pub fn identifiers(rt: &impl Print) -> io::Result<()> {
+    printing::text(rt, b"identifiers")?;
+    with_identifier(rt, b"t/2012/0001")?;
+    with_identifier(rt, b"T-2012/0001")?;
+    with_identifier(rt, b"T/ 012/0001")?;
+    with_identifier(rt, b"T/2012 0001")?;
+    with_identifier(rt, b"T/2012/000:")?;
+    with_identifier(rt, b"T/0000/9999")?;
+    printing::end(rt)
 }
 
 // Any three bytes for a type.
-pub fn kinds() {
-    printing::text(b"type");
-    with_kind(b"\x00\xff ");
-    printing::end();
+pub fn kinds(rt: &impl Print) -> io::Result<()> {
+    printing::text(rt, b"type")?;
+    with_kind(rt, b"\x00\xff ")?;
+    printing::end(rt)
 }
 
 // The refusal of the message with another type, written into a space.
@@ -172,22 +174,23 @@ fn write_into(space: &mut [u8], kind: &[u8]) -> u64 {
 
 // What a writing left: its refusal, whether the message stands in the space, and how many bytes
 // hold the pattern still.
-fn outcome(n: usize, refusal: u64, space: [u8; 341]) {
-    printing::text(b"space");
-    printing::number(n as u64);
-    printing::number(refusal);
-    printing::yes(check::same(&space[..339], &message::bytes()));
-    printing::number(unchanged(&space));
-    printing::end();
+fn outcome(rt: &impl Print, n: usize, refusal: u64, space: [u8; 341]) -> io::Result<()> {
+    printing::text(rt, b"space")?;
+    printing::number(rt, n as u64)?;
+    printing::number(rt, refusal)?;
+    printing::yes(rt, space.starts_with(&message::bytes()))?;
+    printing::number(rt, unchanged(&space))?;
+    printing::end(rt)
 }
 
 // Writes into the first n bytes of a space of 341 that holds a pattern.
-fn space_of(n: usize, kind: &[u8]) {
+fn space_of(rt: &impl Print, n: usize, kind: &[u8]) -> io::Result<()> {
     let mut space = [170u8; 341];
     if n <= 341 {
         let refusal = write_into(&mut space[..n], kind);
-        outcome(n, refusal, space);
+        outcome(rt, n, refusal, space)?;
     }
+    Ok(())
 }
 
 // How many bytes of a space hold the pattern.
@@ -204,11 +207,11 @@ fn unchanged(space: &[u8]) -> u64 {
 }
 
 // 338, 339 and 340 bytes of space, then 0; a short type with room and without.
-pub fn spaces() {
-    space_of(338, b"6G1");
-    space_of(339, b"6G1");
-    space_of(340, b"6G1");
-    space_of(0, b"6G1");
-    space_of(340, b"6G");
-    space_of(338, b"6G");
+pub fn spaces(rt: &impl Print) -> io::Result<()> {
+    space_of(rt, 338, b"6G1")?;
+    space_of(rt, 339, b"6G1")?;
+    space_of(rt, 340, b"6G1")?;
+    space_of(rt, 0, b"6G1")?;
+    space_of(rt, 340, b"6G")?;
+    space_of(rt, 338, b"6G")
 }

@@ -5,57 +5,58 @@ use book::Book;
 use errors::Errors;
 use marginal::MarginalRate;
 use places::Rate;
+use std::io;
 use tender::{Allotted, Received, number_of};
 
 // That a call was accepted, or the number with which it was refused; 0 is no refusal.
-pub fn answer(number: u64) {
+pub fn answer(rt: &impl Print, number: u64) -> io::Result<()> {
     if number == 0 {
-        printing::text(b" accepted");
+        printing::text(rt, b" accepted")?;
     } else {
-        printing::text(b" refused with");
-        printing::number(number);
+        printing::text(rt, b" refused with")?;
+        printing::number(rt, number)?;
     }
-    printing::end();
+    printing::end(rt)
 }
 
 // The codes of the errors.
-fn codes(e: Errors) {
+fn codes(rt: &impl Print, e: Errors) -> io::Result<()> {
     let codes = e.codes;
     let n = e.n;
     let mut i = 0;
     while i < 16 {
         if i < n {
-            printing::number(codes[i] as u64);
+            printing::number(rt, codes[i] as u64)?;
         }
         i += 1;
     }
+    Ok(())
 }
 
 // That a message was confirmed, or the errors with which it was returned, and the length of the reply; or the number with which the reception was refused.
-pub fn received(r: Received) {
+pub fn received(rt: &impl Print, r: Received) -> io::Result<()> {
     let refusal = r.refusal;
     let errors = r.errors;
     let number = number_of(refusal);
     if number != 0 {
-        answer(number);
-        return;
+        return answer(rt, number);
     }
     if errors.n == 0 {
-        printing::text(b" confirmed");
+        printing::text(rt, b" confirmed")?;
     } else {
-        printing::text(b" returned with");
-        codes(errors);
+        printing::text(rt, b" returned with")?;
+        codes(rt, errors)?;
     }
-    printing::text(b", reply of");
-    printing::number(r.length as u64);
-    printing::text(b" bytes");
-    printing::end();
+    printing::text(rt, b", reply of")?;
+    printing::number(rt, r.length as u64)?;
+    printing::text(rt, b" bytes")?;
+    printing::end(rt)
 }
 
 // A rate, in hundred-thousandths of a percent.
-fn rate(r: Rate) {
-    printing::text(b" rate");
-    printing::number(r.0 as u64);
+fn rate(rt: &impl Print, r: Rate) -> io::Result<()> {
+    printing::text(rt, b" rate")?;
+    printing::number(rt, r.0 as u64)
 }
 
 // The award of a place, in eurocents.
@@ -67,38 +68,40 @@ fn cents_at(a: Allotted, i: usize) -> u64
 }
 
 // An award above zero: code, place from 1, rate and eurocents.
-fn award(b: Book, i: usize, cents: u64)
+fn award(rt: &impl Print, b: Book, i: usize, cents: u64) -> io::Result<()>
     requires { i < 640 }
 {
     if 0 < cents {
-        printing::text(b"award to");
-        printing::number(b.codes[i / 10] as u64);
-        printing::text(b" place");
-        printing::number((i % 10) as u64 + 1);
+        printing::text(rt, b"award to")?;
+        printing::number(rt, b.codes[i / 10] as u64)?;
+        printing::text(rt, b" place")?;
+        printing::number(rt, (i % 10) as u64 + 1)?;
         let rates = b.rates;
-        rate(rates[i]);
-        printing::text(b" cents");
-        printing::number(cents);
-        printing::end();
+        rate(rt, rates[i])?;
+        printing::text(rt, b" cents")?;
+        printing::number(rt, cents)?;
+        printing::end(rt)?;
     }
+    Ok(())
 }
 
 // Every award above zero, in book order.
-pub fn awards(a: Allotted) {
+pub fn awards(rt: &impl Print, a: Allotted) -> io::Result<()> {
     let book = a.tender.book();
     let mut i = 0;
     while i < 640 {
-        award(book, i, cents_at(a, i));
+        award(rt, book, i, cents_at(a, i))?;
         i += 1;
     }
+    Ok(())
 }
 
 // The marginal rate, or that there is none.
-pub fn marginal(m: MarginalRate) {
-    printing::text(b"marginal");
+pub fn marginal(rt: &impl Print, m: MarginalRate) -> io::Result<()> {
+    printing::text(rt, b"marginal")?;
     match m {
-        MarginalRate::At(r) => rate(r),
-        MarginalRate::None => printing::text(b" rate none"),
+        MarginalRate::At(r) => rate(rt, r)?,
+        MarginalRate::None => printing::text(rt, b" rate none")?,
     }
-    printing::end();
+    printing::end(rt)
 }

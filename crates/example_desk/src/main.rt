@@ -1,83 +1,87 @@
 // A program that calls the book, for a maker to copy: docs/MAKERS.md goes through it. It runs the worked session of
 // document 01 and prints the answer of every call and every award.
+#![tactic(auto)]
+
 mod lines;
 mod messages;
 
+ghost use Rattle.std.specs.Prelude.{IfOk};
 ghost use Rattle.tender.specs.Viewed.{Given};
 
 use messages::application;
+use std::io;
 use tender::{Allotted, Tender, number_of};
 use terms::number_of_answer;
 
 // Opens the tender of an announcement for three counterparties.
-fn open(announcement: &[u8]) -> Tender
-    ensures { Given result }
+fn open(rt: &impl Print, announcement: &[u8]) -> io::Result<Tender>
+    ensures { IfOk result Given }
 {
     let codes = [90001u32, 90002, 90003];
     let limits = [0u64; 3]; // One for each code; with zero nobody is capped.
     let opened = tender::open(announcement, &codes, &limits);
     let answer = opened.answer;
-    printing::text(b"open");
-    lines::answer(number_of_answer(answer));
-    opened.tender
+    printing::text(rt, b"open")?;
+    lines::answer(rt, number_of_answer(answer))?;
+    Ok(opened.tender)
 }
 
 // Receives a message on the tender's day. The first bytes of the reply, as many as are printed, go back to the sender.
-fn receive(t: Tender, message: &[u8], time: u64) -> Tender
+fn receive(rt: &impl Print, t: Tender, message: &[u8], time: u64) -> io::Result<Tender>
     requires { Given t }
-    ensures { Given result }
+    ensures { IfOk result Given }
 {
     let mut reply = [0u8; 436];
     let received = t.receive(message, 12032012, time, &mut reply);
-    printing::text(b"receive at");
-    printing::number(time);
-    lines::received(received);
-    received.tender
+    printing::text(rt, b"receive at")?;
+    printing::number(rt, time)?;
+    lines::received(rt, received)?;
+    Ok(received.tender)
 }
 
 // Closes the tender on its day.
-fn close(t: Tender, time: u64) -> Tender
+fn close(rt: &impl Print, t: Tender, time: u64) -> io::Result<Tender>
     requires { Given t }
-    ensures { Given result }
+    ensures { IfOk result Given }
 {
     let closed = t.close(12032012, time);
     let refusal = closed.refusal;
-    printing::text(b"close at");
-    printing::number(time);
-    lines::answer(number_of(refusal));
-    closed.tender
+    printing::text(rt, b"close at")?;
+    printing::number(rt, time)?;
+    lines::answer(rt, number_of(refusal))?;
+    Ok(closed.tender)
 }
 
 // Prints what was allotted, or what would be.
-fn show(a: Allotted) {
+fn show(rt: &impl Print, a: Allotted) -> io::Result<()> {
     let refusal = a.refusal;
     let marginal = a.marginal;
-    lines::answer(number_of(refusal));
-    lines::awards(a);
-    lines::marginal(marginal);
+    lines::answer(rt, number_of(refusal))?;
+    lines::awards(rt, a)?;
+    lines::marginal(rt, marginal)
 }
 
 // Previews the awards, at any hour; the tender stays as it is.
-fn preview(t: Tender) -> Tender
+fn preview(rt: &impl Print, t: Tender) -> io::Result<Tender>
     requires { Given t }
-    ensures { Given result }
+    ensures { IfOk result Given }
 {
     let previewed = t.preview();
-    printing::text(b"preview");
-    show(previewed);
-    previewed.tender
+    printing::text(rt, b"preview")?;
+    show(rt, previewed)?;
+    Ok(previewed.tender)
 }
 
 // Allots.
-fn allot(t: Tender)
+fn allot(rt: &impl Print, t: Tender) -> io::Result<()>
     requires { Given t }
 {
     let allotted = t.allot();
-    printing::text(b"allot");
-    show(allotted);
+    printing::text(rt, b"allot")?;
+    show(rt, allotted)
 }
 
-fn main() {
+fn main(rt: HostRuntime) -> io::Result<()> {
     // One field of the announcement on each line: its tag, its length and what it holds.
     let announcement = b"\x01\x00\x036G0\
         \x04\x00\x0501000\
@@ -91,13 +95,13 @@ fn main() {
         \x73\x00\x0814032012\
         \x74\x00\x0815032012\
         \x75\x00\x06110000";
-    let t = open(announcement);
-    let t = receive(t, &application(90002, 102900, 150000, 60000), 103000);
-    let t = receive(t, &application(90001, 103100, 120000, 50000), 103101);
-    let t = preview(t);
-    let t = receive(t, &application(90003, 103400, 120000, 40000), 103500);
-    let t = receive(t, &application(90002, 102000, 150000, 60000), 104000);
-    let t = close(t, 110000);
-    let t = close(t, 110001);
-    allot(t);
+    let t = open(&rt, announcement)?;
+    let t = receive(&rt, t, &application(90002, 102900, 150000, 60000), 103000)?;
+    let t = receive(&rt, t, &application(90001, 103100, 120000, 50000), 103101)?;
+    let t = preview(&rt, t)?;
+    let t = receive(&rt, t, &application(90003, 103400, 120000, 40000), 103500)?;
+    let t = receive(&rt, t, &application(90002, 102000, 150000, 60000), 104000)?;
+    let t = close(&rt, t, 110000)?;
+    let t = close(&rt, t, 110001)?;
+    allot(&rt, t)
 }

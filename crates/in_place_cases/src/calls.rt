@@ -13,7 +13,7 @@ use refusals::{Refusal, number_of};
 use terms::number_of_answer;
 
 // The number of a refusal, and the words after the call.
-#[derive(Drop)]
+#[derive(Clone, Copy)]
 pub struct After {
     pub number: u64,
     pub words: [u64; 1560],
@@ -56,7 +56,7 @@ pub fn revoke(before: [u64; 1560]) -> After {
 }
 
 // What an allotment or a preview gives too.
-#[derive(Drop)]
+#[derive(Clone, Copy)]
 pub struct Awarded {
     pub number: u64,
     pub words: [u64; 1560],
@@ -108,7 +108,7 @@ pub fn preview(words: [u64; 1560]) -> Awarded {
 }
 
 // How much of a message is received and when, and how much room there is for the reply.
-#[derive(Drop)]
+#[derive(Clone, Copy)]
 pub struct Reception {
     pub length: usize,
     pub date: u64,
@@ -141,7 +141,7 @@ pub fn up_to_438(n: usize) -> usize
 }
 
 // What a reception tells, with its reply space and the words after it.
-#[derive(Drop)]
+#[derive(Clone, Copy)]
 pub struct Replied {
     pub told: Told,
     pub space: [u8; 438],

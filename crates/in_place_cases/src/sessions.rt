@@ -1,5 +1,5 @@
 // Sessions written as letters, each of them a step.
-ghost use Rattle.std.specs.Prelude.{◌≤◌};
+ghost use Rattle.std.specs.Prelude.{IfOk, ◌≤◌};
 ghost use Rattle.tender.specs.Viewed.{Given};
 
 use crate::calls::{Reception, at};
@@ -8,6 +8,7 @@ use crate::messages::{
     of_other_branch, over_limit, six_errors, with,
 };
 use crate::steps::{Both, allot, close, open, preview, receive, revoke};
+use std::io;
 
 // The announcement of an opening.
 fn announced(k: u8) -> [u8; 225] {
@@ -50,8 +51,8 @@ fn count(k: u8) -> usize
 }
 
 // Opens a tender: L and M for LA, X with a wrong tag, E and Z for equal codes, N for no code.
-fn opening(k: u8) -> Both
-    ensures { Given result.tender }
+fn opening(rt: &impl Print, k: u8) -> io::Result<Both>
+    ensures { IfOk result (λ b. Given b.tender) }
 {
     let a = announced(k);
     let codes = [90001u32, 90002, 90003];
@@ -59,12 +60,12 @@ fn opening(k: u8) -> Both
     let limits = limits(k);
     let n = count(k);
     if (k == b'E') | (k == b'Z') {
-        return open(a, &equal, &limits[0..n]);
+        return open(rt, a, &equal, &limits[0..n]);
     }
     if k == b'N' {
-        return open(a, &codes[0..0], &limits[0..n]);
+        return open(rt, a, &codes[0..0], &limits[0..n]);
     }
-    open(a, &codes, &limits[0..n])
+    open(rt, a, &codes, &limits[0..n])
 }
 
 // The message of a reception: b, c and d are the others of document 01's session, k cancels, m is over a limit, v to x come from branches.
@@ -122,35 +123,36 @@ fn reception(k: u8) -> Reception {
 }
 
 // A step: A allots, P previews, V revokes, B, C and D close, other capitals open, small letters receive.
-fn step(b: Both, k: u8) -> Both
+fn step(rt: &impl Print, b: Both, k: u8) -> io::Result<Both>
     requires { Given b.tender }
-    ensures { Given result.tender }
+    ensures { IfOk result (λ b. Given b.tender) }
 {
     if k == b'A' {
-        return allot(b);
+        return allot(rt, b);
     }
     if k == b'P' {
-        return preview(b);
+        return preview(rt, b);
     }
     if k == b'V' {
-        return revoke(b);
+        return revoke(rt, b);
     }
     if k < b'E' {
         let at = reception(k);
-        return close(b, at.date, at.time);
+        return close(rt, b, at.date, at.time);
     }
     if k < b'a' {
-        return opening(k);
+        return opening(rt, k);
     }
-    receive(b, message(k), reception(k))
+    receive(rt, b, message(k), reception(k))
 }
 
 // Every step, after an opening for LP.
-pub fn run(steps: &[u8]) {
-    let mut b = opening(b'O');
+pub fn run(rt: &impl Print, steps: &[u8]) -> io::Result<()> {
+    let mut b = opening(rt, b'O')?;
     let mut i = 0;
     while i < steps.len() {
-        b = step(b, steps[i]);
+        b = step(rt, b, steps[i])?;
         i += 1;
     }
+    Ok(())
 }

@@ -1,59 +1,62 @@
 // Each call both ways. What it is, its answer and whether both ways gave the same are printed as one line.
+ghost use Rattle.std.specs.Prelude.{IfOk};
 ghost use Rattle.tender.specs.Viewed.{Given};
 
 use crate::calls;
 use crate::calls::{Awarded, Reception, Replied};
 use crate::comparing::{all_same, same_awards, same_errors, same_rate, same_spaces, same_tender};
 use refusals::number_of;
+use std::io;
 use tender::{Allotted, Received, Tender};
 use terms::number_of_answer;
 
 // A tender, and the words that hold the same one.
-#[derive(Drop)]
+#[derive(Clone, Copy)]
 pub struct Both {
     pub tender: Tender,
     pub words: [u64; 1560],
 }
 
 // The end of a line.
-fn end(same: bool) {
+fn end(rt: &impl Print, same: bool) -> io::Result<()> {
     if same {
-        printing::text(b", same");
+        printing::text(rt, b", same")?;
     } else {
-        printing::text(b", DIFFERENT");
+        printing::text(rt, b", DIFFERENT")?;
     }
-    printing::end();
+    printing::end(rt)
 }
 
 // A call that was accepted, or the number with which it was refused.
-fn line(number: u64, same: bool) {
+fn line(rt: &impl Print, number: u64, same: bool) -> io::Result<()> {
     if number == 0 {
-        printing::text(b" accepted");
+        printing::text(rt, b" accepted")?;
     } else {
-        printing::text(b" refused");
-        printing::number(number);
+        printing::text(rt, b" refused")?;
+        printing::number(rt, number)?;
     }
-    end(same);
+    end(rt, same)
 }
 
 // The limits of an opening.
-fn limited(limits: &[u64]) {
-    printing::text(b" limits");
+fn limited(rt: &impl Print, limits: &[u64]) -> io::Result<()> {
+    printing::text(rt, b" limits")?;
     let mut i = 0;
     while i < limits.len() {
-        printing::number(limits[i]);
+        printing::number(rt, limits[i])?;
         i += 1;
     }
+    Ok(())
 }
 
 // Opens a tender; words in which it is refused stay.
-pub fn open(a: [u8; 225], codes: &[u32], limits: &[u64]) -> Both
-    ensures { Given result.tender }
+pub fn open(rt: &impl Print, a: [u8; 225], codes: &[u32], limits: &[u64]) -> io::Result<Both>
+    ensures { IfOk result (λ b. Given b.tender) }
 {
-    printing::text(b"opening ");
-    printing::text(&a[73..91]);
-    printing::number(codes.len() as u64);
-    limited(limits);
+    printing::text(rt, b"opening ")?;
+    printing::text(rt, &a[73..91])?;
+    printing::number(rt, codes.len() as u64)?;
+    limited(rt, limits)?;
     let o = tender::open(&a, codes, limits);
     let answer = o.answer;
     let number = number_of_answer(answer);
@@ -63,17 +66,22 @@ pub fn open(a: [u8; 225], codes: &[u32], limits: &[u64]) -> Both
     let tender = o.tender;
     if number == 0 {
         line(
+            rt,
             number,
             (number == after.number) & same_tender(tender, words),
-        );
+        )?;
     } else {
-        line(number, (number == after.number) & all_same(words, before));
+        line(
+            rt,
+            number,
+            (number == after.number) & all_same(words, before),
+        )?;
     }
-    Both { tender, words }
+    Ok(Both { tender, words })
 }
 
 // What a reception by value gives, with its reply space.
-#[derive(Drop)]
+#[derive(Clone, Copy)]
 struct ByValue {
     received: Received,
     space: [u8; 438],
@@ -110,66 +118,65 @@ fn same_replies(by_value: ByValue, after: Replied) -> bool {
 }
 
 // A reception that was confirmed, returned with so many errors, or refused.
-fn received(r: Received, same: bool) {
+fn received(rt: &impl Print, r: Received, same: bool) -> io::Result<()> {
     let refusal = r.refusal;
     let errors = r.errors;
     let number = number_of(refusal);
     if number != 0 {
-        line(number, same);
-        return;
+        return line(rt, number, same);
     }
     if errors.n == 0 {
-        printing::text(b" confirmed");
+        printing::text(rt, b" confirmed")?;
     } else {
-        printing::text(b" returned with errors");
-        printing::number(errors.n as u64);
+        printing::text(rt, b" returned with errors")?;
+        printing::number(rt, errors.n as u64)?;
     }
-    end(same);
+    end(rt, same)
 }
 
 // The sender's code and the reference time of a message, which stands nine bytes later in one of a branch, and its reception.
-fn arriving(m: [u8; 348], at: Reception) {
-    printing::text(&m[9..14]);
-    printing::text(b" ");
+fn arriving(rt: &impl Print, m: [u8; 348], at: Reception) -> io::Result<()> {
+    printing::text(rt, &m[9..14])?;
+    printing::text(rt, b" ")?;
     if at.length == 348 {
-        printing::text(&m[59..65]);
+        printing::text(rt, &m[59..65])?;
     } else {
-        printing::text(&m[50..56]);
+        printing::text(rt, &m[50..56])?;
     }
-    printing::text(b" received");
-    printing::number(at.date);
-    printing::number(at.time);
-    printing::number(at.room as u64);
+    printing::text(rt, b" received")?;
+    printing::number(rt, at.date)?;
+    printing::number(rt, at.time)?;
+    printing::number(rt, at.room as u64)
 }
 
 // Receives a message.
-pub fn receive(b: Both, m: [u8; 348], at: Reception) -> Both
+pub fn receive(rt: &impl Print, b: Both, m: [u8; 348], at: Reception) -> io::Result<Both>
     requires { Given b.tender }
-    ensures { Given result.tender }
+    ensures { IfOk result (λ b. Given b.tender) }
 {
     let t = b.tender;
     let words = b.words;
-    arriving(m, at);
+    arriving(rt, m, at)?;
     let end = calls::up_to_348(at.length);
     let by_value = receive_by_value(t, &m[0..end], at);
     let r = by_value.received;
     let tender = r.tender;
     let after = calls::receive(words, &m[0..end], at);
-    received(r, same_replies(by_value, after));
+    received(rt, r, same_replies(by_value, after))?;
     let words = after.words;
-    Both { tender, words }
+    Ok(Both { tender, words })
 }
 
 // Closes a tender.
-pub fn close(b: Both, date: u64, time: u64) -> Both
+pub fn close(rt: &impl Print, b: Both, date: u64, time: u64) -> io::Result<Both>
     requires { Given b.tender }
-    ensures { Given result.tender }
+    ensures { IfOk result (λ b. Given b.tender) }
 {
     let t = b.tender;
     let words = b.words;
-    printing::text(b"closing");
-    printing::number(date);
-    printing::number(time);
+    printing::text(rt, b"closing")?;
+    printing::number(rt, date)?;
+    printing::number(rt, time)?;
     let r = t.close(date, time);
     let tender = r.tender;
     let refusal = r.refusal;
@@ -177,18 +184,18 @@ pub fn close(b: Both, date: u64, time: u64) -> Both
     let after = calls::close(words, date, time);
     let words = after.words;
     let same = same_tender(tender, words);
-    line(number, (number == after.number) & same);
-    Both { tender, words }
+    line(rt, number, (number == after.number) & same)?;
+    Ok(Both { tender, words })
 }
 
 // Revokes a tender.
-pub fn revoke(b: Both) -> Both
+pub fn revoke(rt: &impl Print, b: Both) -> io::Result<Both>
     requires { Given b.tender }
-    ensures { Given result.tender }
+    ensures { IfOk result (λ b. Given b.tender) }
 {
     let t = b.tender;
     let words = b.words;
-    printing::text(b"revoking");
+    printing::text(rt, b"revoking")?;
     let r = t.revoke();
     let tender = r.tender;
     let refusal = r.refusal;
@@ -196,8 +203,8 @@ pub fn revoke(b: Both) -> Both
     let after = calls::revoke(words);
     let words = after.words;
     let same = same_tender(tender, words);
-    line(number, (number == after.number) & same);
-    Both { tender, words }
+    line(rt, number, (number == after.number) & same)?;
+    Ok(Both { tender, words })
 }
 
 // The eurocents of all awards.
@@ -205,16 +212,16 @@ fn total(awards: [u64; 640]) -> u64 {
     let mut sum: u64 = 0;
     let mut i = 0;
     while i < 640 {
-        sum = std::num::wrapping_add_u64(sum, awards[i]);
+        sum = sum.wrapping_add(awards[i]);
         i += 1;
     }
     sum
 }
 
 // What an allotment or a preview gave by value and in place.
-fn awarded(r: Allotted, after: Awarded) -> Both
+fn awarded(rt: &impl Print, r: Allotted, after: Awarded) -> io::Result<Both>
     requires { Given r.tender }
-    ensures { Given result.tender }
+    ensures { IfOk result (λ b. Given b.tender) }
 {
     let tender = r.tender;
     let refusal = r.refusal;
@@ -224,35 +231,35 @@ fn awarded(r: Allotted, after: Awarded) -> Both
     let rate = after.marginal;
     let cents = after.awards;
     let words = after.words;
-    printing::text(b" total");
-    printing::number(total(cents));
+    printing::text(rt, b" total")?;
+    printing::number(rt, total(cents))?;
     let same = same_awards(awards, cents) & same_rate(marginal, rate) & same_tender(tender, words);
-    line(number, (number == after.number) & same);
-    Both { tender, words }
+    line(rt, number, (number == after.number) & same)?;
+    Ok(Both { tender, words })
 }
 
 // Allots a tender.
-pub fn allot(b: Both) -> Both
+pub fn allot(rt: &impl Print, b: Both) -> io::Result<Both>
     requires { Given b.tender }
-    ensures { Given result.tender }
+    ensures { IfOk result (λ b. Given b.tender) }
 {
     let t = b.tender;
     let words = b.words;
-    printing::text(b"allotting");
+    printing::text(rt, b"allotting")?;
     let r = t.allot();
     let after = calls::allot(words);
-    awarded(r, after)
+    awarded(rt, r, after)
 }
 
 // Previews a tender, whose words stay.
-pub fn preview(b: Both) -> Both
+pub fn preview(rt: &impl Print, b: Both) -> io::Result<Both>
     requires { Given b.tender }
-    ensures { Given result.tender }
+    ensures { IfOk result (λ b. Given b.tender) }
 {
     let t = b.tender;
     let words = b.words;
-    printing::text(b"previewing");
+    printing::text(rt, b"previewing")?;
     let r = t.preview();
     let after = calls::preview(words);
-    awarded(r, after)
+    awarded(rt, r, after)
 }

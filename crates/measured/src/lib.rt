@@ -1,4 +1,6 @@
 // For measuring only: one share and one allotment, on numbers that a benchmark in C gives.
+#![tactic(auto)]
+
 use allotment::internal::allot;
 use announcement::Side;
 use division::internal::divide;

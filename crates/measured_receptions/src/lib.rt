@@ -1,4 +1,6 @@
 // For measuring only: messages received one after the other by one tender, each by the tender that the reception before it gave.
+#![tactic(auto)]
+
 ghost use Rattle.tender.specs.Viewed.{Given};
 
 use book::Book;
@@ -23,7 +25,7 @@ fn total(b: Book) -> u64 {
     let mut sum: u64 = 0;
     let mut i = 0;
     while i < 640 {
-        sum = std::num::wrapping_add_u64(sum, amounts[i].0);
+        sum = sum.wrapping_add(amounts[i].0);
         i += 1;
     }
     sum

@@ -1,26 +1,32 @@
 // What the programs with cases print, on standard output.
+#![tactic(auto)]
+
 use digits::Digits;
+use std::io;
 
-pub fn text(s: &[u8]) {
-    io::write_all(1, s);
+pub fn text(rt: &impl Print, s: &[u8]) -> io::Result<()> {
+    rt.write_all(s)
 }
 
-pub fn number(n: u64) {
-    io::write_all(1, b" ");
-    io::print_decimal(1, n);
+pub fn number(rt: &impl Print, n: u64) -> io::Result<()> {
+    print!(rt; " {n}")
 }
 
-pub fn digits(d: Digits) {
+pub fn digits(rt: &impl Print, d: Digits) -> io::Result<()> {
     match d {
-        Digits::Number(n) => number(n),
-        Digits::None => text(b" none"),
+        Digits::Number(n) => number(rt, n),
+        Digits::None => text(rt, b" none"),
     }
 }
 
-pub fn yes(b: bool) {
-    if b { text(b" yes") } else { text(b" no") }
+pub fn yes(rt: &impl Print, b: bool) -> io::Result<()> {
+    if b {
+        text(rt, b" yes")
+    } else {
+        text(rt, b" no")
+    }
 }
 
-pub fn end() {
-    io::write_all(1, b"\n");
+pub fn end(rt: &impl Print) -> io::Result<()> {
+    text(rt, b"\n")
 }

@@ -13,13 +13,13 @@ use Rattle.session_log.specs.Turns.{waiting, handed, Within, TakesFields, counte
 use Rattle.session_log.proofs.Turns.{waiting-length}
 
 -- what holds of a turn after the bytes so far: so many stood before the buffer, and as much is left of all as of those that the last run was handed, and, while the log has not ended, of those that wait
-record Reached (t : Turn) (input sofar : List ℕ) : Type 0 where
-  within : Within t input
-  base : ℕ
-  counts : base + t.to ≡ length sofar
-  before_is : t.before ≡ counted 0 base
-  asked : left_of sofar ≡ left_of (handed t input)
-  waits : t.standing.ended ≡ false → (rest : List ℕ) → left_of (sofar ++ rest) ≡ left_of (waiting t input ++ rest)
+pub record Reached (t : Turn) (input sofar : List ℕ) : Type 0 where
+  pub within : Within t input
+  pub base : ℕ
+  pub counts : base + t.to ≡ length sofar
+  pub before_is : t.before ≡ counted 0 base
+  pub asked : left_of sofar ≡ left_of (handed t input)
+  pub waits : t.standing.ended ≡ false → (rest : List ℕ) → left_of (sofar ++ rest) ≡ left_of (waiting t input ++ rest)
 
 -- as many bytes were handed to the last run as stand between its indices
 handed-length : {t : Turn} {input : List ℕ} → Within t input → length (handed t input) ≡ t.to - t.last
@@ -32,7 +32,7 @@ handed-length {t} {input} w =
 counted_twice : (a b c : ℕ) → counted (counted a b) c ≡ counted a (b + c)
 counted_twice a b c = omega arith
 
-after_read : {t r : Turn} {input after sofar : List ℕ} → Reached t input sofar → t.standing.ended ≡ false → ReadsMore t input r after → Reached r after (sofar ++ got t input r after)
+pub after_read : {t r : Turn} {input after sofar : List ℕ} → Reached t input sofar → t.standing.ended ≡ false → ReadsMore t input r after → Reached r after (sofar ++ got t input r after)
 after_read {t} {r} {input} {after} {sofar} v u k =
     let more = got t input r after in
     record {
@@ -57,7 +57,7 @@ after_read {t} {r} {input} {after} {sofar} v u k =
           ∙ ap left_of (sym (append_assoc (waiting t input) more rest) ∙ ap (λ (x : List ℕ). x ++ rest) (sym k.kept));
     }
 
-after_run : {t r : Turn} {codes words input space codes₂ words₂ after sofar : List ℕ} → Reached t input sofar → t.standing.ended ≡ false → TakesFields t codes words input space r codes₂ words₂ after → Reached r input sofar
+pub after_run : {t r : Turn} {codes words input space codes₂ words₂ after sofar : List ℕ} → Reached t input sofar → t.standing.ended ≡ false → TakesFields t codes words input space r codes₂ words₂ after → Reached r input sofar
 after_run {t} {r} {input = input} {sofar = sofar} v u k =
     record {
       within = k.within;
@@ -84,7 +84,7 @@ after_turns {t} {e} {input = input} {last = last} sofar v (then_reads {r = r} {a
 after_turns sofar v (then_takes u k more) = after_turns sofar (after_run v u k) more
 
 -- the offset of what is left of all bytes
-offset_is : {e : Turn} {last read : List ℕ} (v : Reached e last read) → counted (counted e.before e.last) (length (handed e last) - length (left_of (handed e last))) ≡ counted 0 (length read - length (left_of read))
+pub offset_is : {e : Turn} {last read : List ℕ} (v : Reached e last read) → counted (counted e.before e.last) (length (handed e last) - length (left_of (handed e last))) ≡ counted 0 (length read - length (left_of read))
 offset_is {e} {last} {read} v =
     let s = handed e last in
     let rest = length s - length (left_of s) in
@@ -101,7 +101,7 @@ offset_is {e} {last} {read} v =
     ∙ ap (counted 0) sum
 
 -- before the first turn nothing was read
-at_start : {t : Turn} {input : List ℕ} → (t.before ≡ 0) × (t.to ≡ 0) → Within t input → Reached t input []
+pub at_start : {t : Turn} {input : List ℕ} → (t.before ≡ 0) × (t.to ≡ 0) → Within t input → Reached t input []
 at_start {t} {input} z w =
     let before = z.0 in
     let to = z.1 in

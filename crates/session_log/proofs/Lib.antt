@@ -1,2 +1,4 @@
 pub mod Turns
 pub mod Ends
+pub mod Draws
+pub mod Logs

@@ -3,16 +3,17 @@ use mathlib.Core.Path.{◌≡◌, refl, sym, ap, ap₂, subst, subst₂, ◌∙�
 use mathlib.Core.Bool.{Bool, true, false, not, ◌&&◌, and-true}
 use mathlib.Core.List.{List, [], ◌∷◌, ◌++◌, append_assoc, append-nil}
 use Prim.Native.Nat.{ℕ, zero, suc, ◌+◌, ◌-◌, ◌≤◌, zero-le}
-use native.Mathlib.Nat.{min-le_right, sub-zero, zero-sub, suc-sub-suc}
+use native.Mathlib.Nat.{sub-zero, zero-sub, suc-sub-suc}
 use native.Mathlib.Omega.{arith}
-use borrow.Author.Tests.{le-leb, le-ltb, eqb-true}
+use borrow.Author.Tests.{le-leb, eqb-true}
 use lib.Dec.{leb, eqb}
-use lib.ListN.{length, take, drop, take-append-drop, length-take, length-drop}
+use lib.ListN.{length, take, drop, take-append-drop, length-drop}
 use lib.Seq.{drop-drop, take-take, take-nil, take_all, take_at, length-take-le}
-use lib.IntN.{ℤ, pos, negsuc}
-use lib.Signed.{lt_z}
+use Rattle.std.specs.Prelude.{None, Result, Ok, Err}
+use Rattle.std.specs.Result.{result_unwrap_or}
+use Rattle.std.specs.Io.{ReadsAtMost}
 use Rattle.output.specs.Output.{Wrote}
-use Rattle.log.specs.Steps.{Log, holds_field, log_from}
+use Rattle.log_rules.specs.Steps.{Log, holds_field, log_from}
 use Rattle.steps.specs.declared.Standing.{Standing}
 use Rattle.steps.specs.Viewed.{viewed, Given}
 use Rattle.journal.specs.Runs.{Runs, LogsIn, RunsAll, no_more, and_next}
@@ -21,7 +22,7 @@ use Rattle.journal.proofs.Whole.{written-first, log_of_runs}
 use Rattle.endings.specs.Endings.{left_of, ending_text}
 use Rattle.session_log.specs.declared.Turn.{Turn}
 use Rattle.session_log.specs.Turns as turns
-use Rattle.session_log.specs.Turns.{waiting, handed, Within, Journal, Lines, TakesFields, counted, is_negative, ReadsMore, Turned, TurnsAll, LogOfTurns, ending_of}
+use Rattle.session_log.specs.Turns.{waiting, handed, Within, Journal, Lines, TakesFields, counted, ReadsMore, Turned, TurnsAll, LogOfTurns, ending_of}
 
 -- what is left of a part of the buffer is a part of the buffer
 drop-take : (u n : ℕ) (l : List ℕ) → drop u (take n l) ≡ take (n - u) (drop u l)
@@ -64,7 +65,7 @@ used_within w used =
 
 -- the turn after a run over all that waited
 abbrev pub turn_of : Turn → Ran → Bool → Turn
-turn_of t ran more = record { more = more; reads = eqb ran.length 0; failed = false; before = t.before; last = t.from; from = t.from + ran.used; to = t.to; length = ran.length; standing = ran.standing }
+turn_of t ran more = record { more = more; reads = eqb ran.length 0; failed = None; before = t.before; last = t.from; from = t.from + ran.used; to = t.to; length = ran.length; standing = ran.standing }
 
 pub taken_by : (t : Turn) (codes words input space : List ℕ) (ran : Ran) (codes₂ words₂ after : List ℕ) (more : Bool)
     → Within t input → 23040 ≤ length space → LogsIn (viewed t.standing codes words) (waiting t input) space ran codes₂ words₂ after
@@ -87,26 +88,28 @@ taken_by t codes words input space ran codes₂ words₂ after more w room k =
     }
 
 -- the turn after a read behind what waited, which was moved to the start of the buffer
-pub read_behind : (t : Turn) (input moved after : List ℕ) (n : ℕ) (more failed : Bool) (before : ℕ) → before ≡ counted t.before t.from → Within t input → moved ≡ waiting t input ++ drop (t.to - t.from) input → take (t.to - t.from) after ≡ take (t.to - t.from) moved → t.to - t.from + n ≤ length after → ReadsMore t input (record { more = more; reads = false; failed = failed; before = before; last = 0; from = 0; to = t.to - t.from + n; length = 0; standing = t.standing }) after
-read_behind t input moved after n more failed before b w e p inside =
+pub read_behind : (t r : Turn) (input moved after : List ℕ) (n : ℕ) → r.before ≡ counted t.before t.from → Within t input → moved ≡ waiting t input ++ drop (t.to - t.from) input → take (t.to - t.from) after ≡ take (t.to - t.from) moved → t.to - t.from + n ≤ length after
+    → (r.reads ≡ false) × (r.last ≡ 0) × (r.from ≡ 0) × (r.to ≡ t.to - t.from + n) × (r.standing ≡ t.standing) → ReadsMore t input r after
+read_behind t r input moved after n b w e p inside is =
     let left = t.to - t.from in
     let l = waiting-length w in
     let first : take left after ≡ waiting t input = p ∙ ap (take left) e ∙ take_at (waiting t input) (drop left input) left l in
+    let last = is.1 in
+    let from = is.2 in
+    let to = is.3 in
     record {
-      kept = kept-first (waiting t input) after left n l first;
-      standing_kept = refl;
-      within = record { begun = omega arith; ordered = omega arith; inside = inside };
-      takes_next = refl;
+      kept = rw (from, to) (kept-first (waiting t input) after left n l first);
+      standing_kept = is.4;
+      within = record { begun = omega (arith, last, from); ordered = omega (arith, from); inside = rw to inside };
+      takes_next = is.0;
       before-counted = b;
-      from_start = (refl, refl);
+      from_start = (from, last);
     }
 
--- bytes counted in the rest of the buffer end within it
-pub counted-within : (n left k : ℕ) (after : List ℕ) → left ≤ length after → n ≤ length (take k (drop left after)) → left + n ≤ length after
-counted-within n left k after h m =
-    let short : length (take k (drop left after)) ≤ length (drop left after) = rw (length-take k (drop left after)) (min-le_right k (length (drop left after))) in
-    let rest = length-drop left after in
-    omega (arith, short, rest)
+-- a read that failed gave nothing, and no read gave more than it had room for
+pub at_most_read : {E : Type 0} (r : Result ℕ E) (buf : List ℕ) (n : ℕ) → ReadsAtMost r buf → n ≡ result_unwrap_or r 0 → n ≤ length buf
+at_most_read (Ok k) buf n h e = rw e h.0
+at_most_read (Err x) buf n h e = rw e zero-le
 
 -- after a turn the indices lie in the buffer again, and its journal is one that a run left
 module _ {t r : Turn} {codes words input space codes₂ words₂ after lines : List ℕ} (k : Turned t codes words input space r codes₂ words₂ after lines) where
@@ -149,11 +152,6 @@ runs_of (turns.and_takes {read = read} k more) = and_next read k.runs (runs_of m
 pub log_of_turns : LogOfTurns
 log_of_turns t codes words input read text j none k =
     log_of_runs read text (subst₂ (λ (l : Log) (s : List ℕ). RunsAll l s text) j (ap (λ (s : List ℕ). s ++ read) none) (runs_of k))
-
--- a call that failed answers a number below zero
-pub below : (z : ℤ) → lt_z z (pos 0) ≡ is_negative z
-below (pos n) = le-ltb n 0 zero-le
-below (negsuc n) = refl
 
 -- the line of an ending is the first bytes of the space that it was written into
 pub ending-written : (t : Turn) (input : List ℕ) (at once twice n : ℕ) (line space : List ℕ)

@@ -1,8 +1,8 @@
 -- What the turns of the program promise: the bytes that were read go to the runs in order, none twice and none lost, and the lines of the runs to the write. Assumes nothing.
-use Rattle.std.specs.Prelude.{◌≡◌, Bool, true, false, not, ◌&&◌, List, [], ◌++◌, ℕ, ◌+◌, ◌-◌, ◌≤◌, min, ℤ, pos, negsuc, length, take, drop}
+use Rattle.std.specs.Prelude.{◌≡◌, Bool, true, false, not, ◌&&◌, List, [], ◌++◌, ℕ, ◌+◌, ◌-◌, ◌≤◌, min, length, Result, is_err, take, drop}
 use Rattle.buffer.specs.Words.{tender_words}
-use Rattle.log.specs.Steps.{holds_field, log_from, log_of}
-use Rattle.log.specs.Steps as log
+use Rattle.log_rules.specs.Steps.{holds_field, log_from, log_of}
+use Rattle.log_rules.specs.Steps as log
 use Rattle.journal.specs.Runs.{Runs}
 use Rattle.steps.specs.Viewed.{viewed, Given}
 use Rattle.endings.specs.Endings.{left_of, ending_text}
@@ -53,9 +53,8 @@ abbrev pub counted : ℕ → ℕ → ℕ
 counted n more = min (n + more) 18446744073709551615
 
 -- what a call that failed answers
-abbrev pub is_negative : ℤ → Bool
-is_negative (pos n) = false
-is_negative (negsuc n) = true
+abbrev pub is_failed : {E : Type 0} → Result ℕ E → Bool
+is_failed r = is_err r
 
 -- a turn that reads: what waited stands at the start of the buffer, and behind it what was read; what stood before it is counted
 pub record ReadsMore (t : Turn) (input : List ℕ) (r : Turn) (after : List ℕ) : Type 0 where

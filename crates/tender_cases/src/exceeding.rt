@@ -2,10 +2,11 @@
 use crate::messages::announcement;
 use crate::{lines, steps};
 use outcomes::internal::allot_bids;
+use std::io;
 use tender::Refusal;
 
 // Allots two bids of a code with a limit under document 01's terms, and prints their awards.
-fn allot(name: &[u8], limit: u64, first: u64, second: u64) {
+fn allot(rt: &impl Print, name: &[u8], limit: u64, first: u64, second: u64) -> io::Result<()> {
     let terms = steps::opened(announcement()).terms();
     let limits = [limit];
     let rates = [150000u32, 140000, 0, 0, 0, 0, 0, 0, 0, 0];
@@ -14,18 +15,18 @@ fn allot(name: &[u8], limit: u64, first: u64, second: u64) {
     let answer = allot_bids(Refusal::None, terms, &limits, &rates, &amounts, &mut awards);
     let refusal = answer.refusal;
     let marginal = answer.marginal;
-    printing::text(name);
-    lines::changed(refusal);
-    printing::number(awards[0]);
-    printing::number(awards[1]);
-    lines::marginal(marginal);
-    printing::end();
+    printing::text(rt, name)?;
+    lines::changed(rt, refusal)?;
+    printing::number(rt, awards[0])?;
+    printing::number(rt, awards[1])?;
+    lines::marginal(rt, marginal)?;
+    printing::end(rt)
 }
 
 // 16: the most that a book may hold, and one cent more, whatever a limit leaves of it.
-pub fn bids() {
-    allot(b"most cents", 0, 999999999999999998, 1);
-    allot(b"one cent more", 0, 999999999999999998, 2);
-    allot(b"most cents, capped", 40000, 999999999999999998, 1);
-    allot(b"one cent more, capped", 40000, 999999999999999998, 2);
+pub fn bids(rt: &impl Print) -> io::Result<()> {
+    allot(rt, b"most cents", 0, 999999999999999998, 1)?;
+    allot(rt, b"one cent more", 0, 999999999999999998, 2)?;
+    allot(rt, b"most cents, capped", 40000, 999999999999999998, 1)?;
+    allot(rt, b"one cent more, capped", 40000, 999999999999999998, 2)
 }

@@ -5,6 +5,7 @@ use book::Book;
 use errors::Errors;
 use marginal::MarginalRate;
 use places::{Amount, Rate};
+use std::io;
 use tender::{Received, Refusal, State, Tender};
 use terms::OpenAnswer;
 
@@ -41,23 +42,23 @@ fn opening_number(a: OpenAnswer) -> u64 {
 }
 
 // That a call was accepted, or the number with which it was refused.
-fn accepted(n: u64) {
+fn accepted(rt: &impl Print, n: u64) -> io::Result<()> {
     if n == 0 {
-        printing::text(b" accepted");
+        printing::text(rt, b" accepted")
     } else {
-        printing::text(b" refused");
-        printing::number(n);
+        printing::text(rt, b" refused")?;
+        printing::number(rt, n)
     }
 }
 
 // The answer to closing, revoking, allotting or a preview.
-pub fn changed(r: Refusal) {
-    accepted(number_of(r));
+pub fn changed(rt: &impl Print, r: Refusal) -> io::Result<()> {
+    accepted(rt, number_of(r))
 }
 
 // The answer to opening.
-pub fn opened(a: OpenAnswer) {
-    accepted(opening_number(a));
+pub fn opened(rt: &impl Print, a: OpenAnswer) -> io::Result<()> {
+    accepted(rt, opening_number(a))
 }
 
 // Which of the IDCs a code stands under.
@@ -79,72 +80,73 @@ fn idc(code: u16) -> usize
 }
 
 // Three bytes of a text.
-fn three(text: &[u8], at: usize)
+fn three(rt: &impl Print, text: &[u8], at: usize) -> io::Result<()>
     requires { at + 3 ≤ length text.now }
 {
-    printing::text(&text[at..at + 3]);
+    printing::text(rt, &text[at..at + 3])
 }
 
 // One error, as IDC and code.
-fn error(code: u16) {
-    printing::text(b" ");
-    three(b"001040050020D316010106G06G56G6", 3 * idc(code));
-    printing::text(b"-");
-    io::print_decimal(1, code as u64);
+fn error(rt: &impl Print, code: u16) -> io::Result<()> {
+    printing::text(rt, b" ")?;
+    three(rt, b"001040050020D316010106G06G56G6", 3 * idc(code))?;
+    print!(rt; "-{code}")
 }
 
 // The errors of a message.
-fn errors(e: Errors) {
+fn errors(rt: &impl Print, e: Errors) -> io::Result<()> {
     let codes = e.codes;
     let n = e.n;
     let mut i = 0;
     while i < 16 {
         if i < n {
-            error(codes[i]);
+            error(rt, codes[i])?;
         }
         i += 1;
     }
+    Ok(())
 }
 
 // The answer to a reception.
-pub fn received(r: Received) {
+pub fn received(rt: &impl Print, r: Received) -> io::Result<()> {
     let refusal = r.refusal;
     let e = r.errors;
     let n = number_of(refusal);
     if n != 0 {
-        accepted(n);
+        accepted(rt, n)
     } else if e.n == 0 {
-        printing::text(b" confirmed");
-        printing::number(r.length as u64);
+        printing::text(rt, b" confirmed")?;
+        printing::number(rt, r.length as u64)
     } else {
-        printing::text(b" returned");
-        errors(e);
-        printing::number(r.length as u64);
+        printing::text(rt, b" returned")?;
+        errors(rt, e)?;
+        printing::number(rt, r.length as u64)
     }
 }
 
 // Where a tender stands.
-fn state(s: State) {
+fn state(rt: &impl Print, s: State) -> io::Result<()> {
     match s {
-        State::Open => printing::text(b" open"),
-        State::Closed => printing::text(b" closed"),
-        State::Announced => printing::text(b" announced"),
-        State::Revoked => printing::text(b" revoked"),
+        State::Open => printing::text(rt, b" open"),
+        State::Closed => printing::text(rt, b" closed"),
+        State::Announced => printing::text(rt, b" announced"),
+        State::Revoked => printing::text(rt, b" revoked"),
     }
 }
 
 // A place, where it is filled.
-fn place(k: u64, rate: Rate, amount: Amount) {
+fn place(rt: &impl Print, k: u64, rate: Rate, amount: Amount) -> io::Result<()> {
     if (rate.0 != 0) | (amount.0 != 0) {
-        printing::text(b" place");
-        printing::number(k);
-        printing::number(rate.0 as u64);
-        printing::number(amount.0);
+        printing::text(rt, b" place")?;
+        printing::number(rt, k)?;
+        printing::number(rt, rate.0 as u64)?;
+        printing::number(rt, amount.0)?;
     }
+    Ok(())
 }
 
 // The filled places of the code at an index, numbered from 1.
-fn places(b: Book, i: usize)
+fn places(rt: &impl Print, b: Book, i: usize) -> io::Result<()>
     requires { i < 64 }
 {
     let rates = b.rates;
@@ -153,68 +155,73 @@ fn places(b: Book, i: usize)
     while k < 10 {
         let rate = rates[10 * i + k];
         let amount = amounts[10 * i + k];
-        place(k as u64 + 1, rate, amount);
+        place(rt, k as u64 + 1, rate, amount)?;
         k += 1;
     }
+    Ok(())
 }
 
 // What is held for the code at an index: its time, or that there is none, and its bids.
-fn entry(b: Book, i: usize) {
+fn entry(rt: &impl Print, b: Book, i: usize) -> io::Result<()> {
     if i < 64 {
-        printing::number(b.codes[i] as u64);
+        printing::number(rt, b.codes[i] as u64)?;
         if b.has[i] {
-            printing::number(b.held[i]);
+            printing::number(rt, b.held[i])?;
         } else {
-            printing::text(b" none");
+            printing::text(rt, b" none")?;
         }
-        places(b, i);
+        places(rt, b, i)?;
     }
+    Ok(())
 }
 
 // What is held for each code.
-fn entries(b: Book) {
+fn entries(rt: &impl Print, b: Book) -> io::Result<()> {
     let n = b.n;
     let mut i = 0;
     while i < n {
-        entry(b, i);
+        entry(rt, b, i)?;
         i += 1;
     }
+    Ok(())
 }
 
 // Where the tender stands after a call and what it holds, at the end of a line.
-pub fn state_after(t: Tender) {
-    printing::text(b";");
-    state(t.state());
-    entries(t.book());
-    printing::end();
+pub fn state_after(rt: &impl Print, t: Tender) -> io::Result<()> {
+    printing::text(rt, b";")?;
+    state(rt, t.state())?;
+    entries(rt, t.book())?;
+    printing::end(rt)
 }
 
 // One award above zero, with its counterparty and place.
-fn award(b: Book, i: usize, awarded: Amount) {
+fn award(rt: &impl Print, b: Book, i: usize, awarded: Amount) -> io::Result<()> {
     if 0 < awarded.0 {
         if i < 640 {
-            printing::number(b.codes[i / 10] as u64);
-            printing::text(b" place");
-            printing::number((i % 10) as u64 + 1);
-            printing::number(awarded.0);
+            printing::number(rt, b.codes[i / 10] as u64)?;
+            printing::text(rt, b" place")?;
+            printing::number(rt, (i % 10) as u64 + 1)?;
+            printing::number(rt, awarded.0)?;
         }
     }
+    Ok(())
 }
 
 // The awards above zero in book order.
-pub fn awards(b: Book, awarded: [Amount; 640]) {
+pub fn awards(rt: &impl Print, b: Book, awarded: [Amount; 640]) -> io::Result<()> {
     let mut i = 0;
     while i < 640 {
-        award(b, i, awarded[i]);
+        award(rt, b, i, awarded[i])?;
         i += 1;
     }
+    Ok(())
 }
 
 // The marginal rate, or that there is none.
-pub fn marginal(m: MarginalRate) {
-    printing::text(b" marginal rate");
+pub fn marginal(rt: &impl Print, m: MarginalRate) -> io::Result<()> {
+    printing::text(rt, b" marginal rate")?;
     match m {
-        MarginalRate::At(rate) => printing::number(rate.0 as u64),
-        MarginalRate::None => printing::text(b" none"),
+        MarginalRate::At(rate) => printing::number(rt, rate.0 as u64),
+        MarginalRate::None => printing::text(rt, b" none"),
     }
 }

@@ -6,6 +6,7 @@ use crate::parts::{initial, part, rest};
 use crate::steps;
 use marginal::MarginalRate;
 use places::Amount;
+use std::io;
 use tender::{Allotted, Tender};
 
 // The four applications.
@@ -94,10 +95,13 @@ fn equal_to_first(orders: &[u8]) -> u64 {
 }
 
 // In how many orders the awards and the marginal rate are those of the session.
-pub fn all() {
-    printing::text(b"orders with equal awards");
-    printing::number(equal_to_first(
-        b"0123 0132 0213 0231 0312 0321 1023 1032 1203 1230 1302 1320 2013 2031 2103 2130 2301 2310 3012 3021 3102 3120 3201 3210",
-    ));
-    printing::end();
+pub fn all(rt: &impl Print) -> io::Result<()> {
+    printing::text(rt, b"orders with equal awards")?;
+    printing::number(
+        rt,
+        equal_to_first(
+            b"0123 0132 0213 0231 0312 0321 1023 1032 1203 1230 1302 1320 2013 2031 2103 2130 2301 2310 3012 3021 3102 3120 3201 3210",
+        ),
+    )?;
+    printing::end(rt)
 }

@@ -1,9 +1,11 @@
 // The cases of the file stdin, a step on each line; its head says what the first letter means.
+ghost use Rattle.std.specs.Prelude.{IfOk};
 ghost use Rattle.tender.specs.Viewed.{Given};
 
 use crate::messages::{announcement, announcing, first, with};
 use crate::parts::{initial, line_end, number, part, rest};
 use crate::steps;
+use std::io;
 use tender::Tender;
 
 // The index that a line names.
@@ -40,68 +42,68 @@ fn limits(line: &[u8]) -> [u64; 3] {
 }
 
 // An opening for the codes 90001 to 90003.
-fn opening(t: Tender, a: [u8; 225], line: &[u8]) -> Tender
+fn opening(rt: &impl Print, t: Tender, a: [u8; 225], line: &[u8]) -> io::Result<Tender>
     requires { Given t }
-    ensures { Given result }
+    ensures { IfOk result Given }
 {
     let codes = [90001u32, 90002, 90003];
     let kind = initial(line);
     if kind == b'O' {
         let none = [0u64; 3];
-        return steps::open(rest(line, 2), a, &codes, &none);
+        return steps::open(rt, rest(line, 2), a, &codes, &none);
     }
     if kind == b'K' {
         let limits = limits(line);
-        return steps::open(rest(line, 50), a, &codes, &limits);
+        return steps::open(rt, rest(line, 50), a, &codes, &limits);
     }
-    t
+    Ok(t)
 }
 
 // A call without a clock.
-fn call(t: Tender, line: &[u8]) -> Tender
+fn call(rt: &impl Print, t: Tender, line: &[u8]) -> io::Result<Tender>
     requires { Given t }
-    ensures { Given result }
+    ensures { IfOk result Given }
 {
     let kind = initial(line);
     let name = rest(line, 2);
     if kind == b'A' {
-        return steps::allot(name, t);
+        return steps::allot(rt, name, t);
     }
     if kind == b'P' {
-        return steps::preview(name, t);
+        return steps::preview(rt, name, t);
     }
     if kind == b'V' {
-        return steps::revoke(name, t);
+        return steps::revoke(rt, name, t);
     }
-    t
+    Ok(t)
 }
 
 // A call at a date and time.
-fn timed(t: Tender, m: [u8; 339], line: &[u8]) -> Tender
+fn timed(rt: &impl Print, t: Tender, m: [u8; 339], line: &[u8]) -> io::Result<Tender>
     requires { Given t }
-    ensures { Given result }
+    ensures { IfOk result Given }
 {
     let kind = initial(line);
     let date = number(part(line, 2, 10));
     let time = number(part(line, 11, 17));
     let name = rest(line, 18);
     if kind == b'C' {
-        return steps::close(name, t, date, time);
+        return steps::close(rt, name, t, date, time);
     }
     if kind == b'S' {
-        return steps::receive_into_435(name, t, &m, date, time);
+        return steps::receive_into_435(rt, name, t, &m, date, time);
     }
     if kind == b'E' {
-        return steps::receive(kind, name, t, &m[0..338], date, time);
+        return steps::receive(rt, kind, name, t, &m[0..338], date, time);
     }
     if (kind == b'R') | (kind == b'H') | (kind == b'L') {
-        return steps::receive(kind, name, t, &m, date, time);
+        return steps::receive(rt, kind, name, t, &m, date, time);
     }
-    t
+    Ok(t)
 }
 
 // What the lines so far lead to.
-#[derive(Drop)]
+#[derive(Clone, Copy)]
 struct Session {
     announcement: [u8; 225],
     message: [u8; 339],
@@ -109,23 +111,23 @@ struct Session {
 }
 
 // The session after a line.
-fn step(s: Session, line: &[u8]) -> Session
+fn step(rt: &impl Print, s: Session, line: &[u8]) -> io::Result<Session>
     requires { Given s.tender }
-    ensures { Given result.tender }
+    ensures { IfOk result (λ s. Given s.tender) }
 {
     let a = s.announcement;
     let m = s.message;
     let t = s.tender;
     let announcement = announced(a, line);
     let message = altered(m, line);
-    let opened = opening(t, announcement, line);
-    let called = call(opened, line);
-    let tender = timed(called, message, line);
-    Session {
+    let opened = opening(rt, t, announcement, line)?;
+    let called = call(rt, opened, line)?;
+    let tender = timed(rt, called, message, line)?;
+    Ok(Session {
         announcement,
         message,
         tender,
-    }
+    })
 }
 
 // Document 01's announcement and its tender, and the first application.
@@ -141,12 +143,13 @@ fn start() -> Session
 }
 
 // Every line of a script.
-pub fn run(script: &[u8]) {
+pub fn run(rt: &impl Print, script: &[u8]) -> io::Result<()> {
     let mut s = start();
     let mut at = 0;
     while at < script.len() {
         let end = line_end(script, at);
-        s = step(s, part(script, at, end));
+        s = step(rt, s, part(script, at, end))?;
         at = end + 1;
     }
+    Ok(())
 }

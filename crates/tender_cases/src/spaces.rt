@@ -2,6 +2,7 @@
 ghost use Rattle.std.specs.Prelude.{◌<◌};
 
 use crate::parts::part;
+use std::io;
 
 // A hexadecimal digit.
 fn digit(n: u8) -> u8
@@ -11,18 +12,19 @@ fn digit(n: u8) -> u8
 }
 
 // A byte in hexadecimal.
-fn byte(b: u8) {
+fn byte(rt: &impl Print, b: u8) -> io::Result<()> {
     let pair = [digit(b / 16), digit(b % 16)];
-    printing::text(&pair);
+    printing::text(rt, &pair)
 }
 
 // Every byte of a space in hexadecimal.
-fn bytes(space: &[u8]) {
+fn bytes(rt: &impl Print, space: &[u8]) -> io::Result<()> {
     let mut i = 0;
     while i < space.len() {
-        byte(space[i]);
+        byte(rt, space[i])?;
         i += 1;
     }
+    Ok(())
 }
 
 // How many bytes of a space hold 238.
@@ -40,13 +42,14 @@ pub fn untouched(space: &[u8]) -> u64 {
 
 // What a line asks for: H the space, L the last field of a returned message, which begins past the
 // message and the field before it.
-pub fn asked(kind: u8, space: &[u8], end: usize) {
+pub fn asked(rt: &impl Print, kind: u8, space: &[u8], end: usize) -> io::Result<()> {
     if kind == b'H' {
-        printing::text(b" ");
-        bytes(space);
+        printing::text(rt, b" ")?;
+        bytes(rt, space)?;
     }
     if kind == b'L' {
-        printing::text(b" ");
-        printing::text(part(space, 369, end));
+        printing::text(rt, b" ")?;
+        printing::text(rt, part(space, 369, end))?;
     }
+    Ok(())
 }
