@@ -4,7 +4,7 @@ use std::env;
 use std::path::PathBuf;
 
 fn main() {
-    let beside = || PathBuf::from(env!("CARGO_MANIFEST_DIR")).join("../../target/staticlib");
+    let beside = || PathBuf::from(env!("CARGO_MANIFEST_DIR")).join("../../target/built");
     let folder = env::var_os("OPTES_ARCHIVE_DIR").map_or_else(beside, PathBuf::from);
     println!("cargo:rerun-if-env-changed=OPTES_ARCHIVE_DIR");
     println!("cargo:rustc-link-search=native={}", folder.display());

@@ -37,8 +37,10 @@ fn lines(text: &str) -> Lines {
     for (index, line) in text.lines().enumerate() {
         let line = line.split('#').next().unwrap_or("");
         if let Some((name, needs)) = line.split_once(':') {
+            // Behind the name it may say that the crate is a static library.
+            let name = name.split_whitespace().next().unwrap_or("");
             let needs = needs.split_whitespace().map(str::to_string).collect();
-            lines.insert(name.trim().to_string(), (index + 1, needs));
+            lines.insert(name.to_string(), (index + 1, needs));
         }
     }
     lines

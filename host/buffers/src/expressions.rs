@@ -144,7 +144,8 @@ impl Reader<'_> {
         self.nothing_says(&[name])
     }
 
-    /// A call of a function of a value's type; a value of the language has a length alone.
+    /// A call of a function of a value's type. A value of the language has a length alone, and a
+    /// number those that wrap round and give such a number.
     fn method(&mut self, of: &Type, name: &str) -> Read<Value> {
         let own = match of {
             Type::Declared(item) => self.sources.own_item(*item, name),
@@ -153,6 +154,11 @@ impl Reader<'_> {
         let (parameters, result) = match (own, of.element()) {
             (Some(method), _) => self.reader_of(method).signature()?,
             (None, Some(_)) if name == "len" => (Vec::new(), Type::Other),
+            (None, None)
+                if matches!(of, Type::Byte | Type::Other) && name.starts_with("wrapping_") =>
+            {
+                (Vec::new(), of.clone())
+            }
             _ => return self.nothing_says(&[name.to_string()]),
         };
         // The first is the value itself.

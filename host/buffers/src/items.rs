@@ -47,13 +47,12 @@ impl List<'_> {
     /// Reads one item; `owner` is the type whose `impl` it stands in.
     fn item(&mut self, owner: Option<&String>) -> Read<()> {
         if self.cursor.skip_if("#") {
+            self.cursor.skip_if("!");
             return self.cursor.skip_brackets();
         }
         self.cursor.skip_visibility()?;
         if self.cursor.skip_if("use") {
-            // One import is one path, so that a name stands for one thing.
-            self.imports.push(self.cursor.path()?);
-            return self.cursor.expect(";");
+            return self.import();
         }
         if self.cursor.skip_if("mod") {
             self.cursor.name()?;
@@ -69,6 +68,25 @@ impl List<'_> {
             }
         }
         self.declared(owner)
+    }
+
+    /// Reads an import of one path, or of names in braces behind one. None of them is given another
+    /// name, so that a name stands for one thing.
+    fn import(&mut self) -> Read<()> {
+        let path = self.cursor.path()?;
+        if *self.cursor.ahead(1) != Word::Sign("{") {
+            self.imports.push(path);
+            return self.cursor.expect(";");
+        }
+        self.cursor.expect("::")?;
+        self.cursor.expect("{")?;
+        while !self.cursor.skip_if("}") {
+            self.imports.push([&path[..], &[self.cursor.name()?]].concat());
+            if !self.cursor.is("}") {
+                self.cursor.expect(",")?;
+            }
+        }
+        self.cursor.expect(";")
     }
 
     fn owned_items(&mut self) -> Read<()> {

@@ -52,6 +52,8 @@ pub fn tokens(text: &str) -> Read<Vec<Token>> {
             }
             Word::Name(name) if ["requires", "ensures"].contains(&name.as_str()) => {
                 lexer.skip_space()?;
+                lexer.name(); // Of several clauses each has one.
+                lexer.skip_space()?;
                 lexer.skip_clause()?;
             }
             Word::Name(name) if name == "ghost" => lexer.skip_ghost()?,

@@ -95,6 +95,8 @@ fn a_constant_of_another_crate_is_followed() {
     refused_at(below(), REPLIES, by_path, reason);
     let by_import = "use output::internal::LONG;\nfn planted() { let a = [0u8; LONG]; }";
     refused_at(below(), REPLIES, by_import, reason);
+    let by_names = "use output::internal::{put, LONG};\nfn planted() { let a = [0u8; LONG]; }";
+    refused_at(below(), REPLIES, by_names, reason);
     let by_root = "use output::LONG;\nfn planted() { let a = [0u8; LONG]; }";
     let root = below().append("crates/output/src/lib.rt", "pub use internal::LONG;");
     refused_at(root, REPLIES, by_root, reason);
@@ -150,15 +152,16 @@ fn shorter_arrays_and_other_numbers_pass() {
 fn comments_contracts_and_ghost_lines_are_no_code() {
     passes("// let a = [0u8; 400];");
     passes(&in_function("/* let a = [0u8; 400]; /* and */ let b = [0u8; 400]; */"));
-    passes("fn planted() ensures { λ r. ⌜ r ≡ f { [u8; 400] } ⌝ } {}");
-    passes("ghost use Rattle·rules.specs.Calls.{a, b};");
+    passes("fn planted() ensures { result ≡ f { [u8; 400] } } {}");
+    passes("ghost use Rattle.rules.specs.Calls.{a, b};");
     refused(&in_function("let a = b\"//\"; let b = [0u8; 400];"), "an array of 400 bytes");
     refused(&in_function("let a = b\"/*\"; let b = [0u8; 400];"), "an array of 400 bytes");
     refused(&in_function("let a = b'\"'; let b = [0u8; 400];"), "an array of 400 bytes");
     for clause in [
-        "requires { ⌜ a ⌝ }",
-        r#"ensures { λ r. ⌜ r ≡ "}" ⌝ }"#,
-        r#"ensures { λ r. ⌜ r ≡ "\"}" ⌝ }"#,
+        "requires { a }",
+        "ensures first { a } ensures second { b }",
+        r#"ensures { result ≡ "}" }"#,
+        r#"ensures { result ≡ "\"}" }"#,
         "ghost { ℕ }",
     ] {
         let planted = format!("fn planted() {clause} {{ let a = [0u8; 400]; }}");

@@ -43,12 +43,7 @@ fn a_returned_message_may_not_go_through_a_buffer() {
 #[test]
 fn a_crate_below_is_followed() {
     let planted = |source: &str| {
-        let line = "replies: laws output";
-        let copy = SourceCopy::new().replace(
-            "crates.txt",
-            &format!("\n{line}"),
-            &format!("\n{line} helper"),
-        );
+        let copy = SourceCopy::new().replace("crates.txt", "\nreplies:", "\nreplies: helper");
         copy.add_crate("helper", "", source, LONG)
     };
     planted("lib.rt").is_refused_in("crates/helper/src/lib.rt", 1, "an array of 400 bytes");
@@ -77,8 +72,7 @@ fn a_library_above_is_looked_through_and_a_program_is_not() {
 
 #[test]
 fn input_and_output_are_refused() {
-    let line = "\nreplies: laws";
-    let with_io = SourceCopy::new().replace("crates.txt", line, "\nreplies: io laws");
+    let with_io = SourceCopy::new().replace("crates.txt", "\nreplies:", "\nreplies: io");
     with_io.is_refused("replies uses io, which is no crate of this repository");
     let below = SourceCopy::new().replace("crates.txt", "\noutput:", "\noutput: libc");
     below.is_refused("output uses libc, which is no crate of this repository");
@@ -126,6 +120,7 @@ fn common_forms_are_read() {
         "pub struct Planted { pub(crate) a: u64 }",
         "fn gives() -> u64 { 1 } fn planted() -> u64 { self::gives() }",
         "use std::num::wrapping_add_u64;\nfn planted() -> u64 { wrapping_add_u64(1, 2) }",
+        "fn planted(n: u64) -> u64 { n.wrapping_add(1).wrapping_mul(n) }",
         "const A: u64 = 1; const B: u64 = 5; fn planted(n: u64) { match n { A..=B => {} _ => {} } }",
         "fn planted(i: u64) -> [u64; 2] { 'a: loop { break 'a; } [i, i] }",
         "fn planted(i: usize) -> u64 { let mut sum = 0; for k in i + 1..2 * i - 1 { sum += 1; } sum }",
@@ -180,6 +175,9 @@ fn what_cannot_be_read_is_refused() {
         ("const PLANTED: u64 = 1 2;", "the item does not end here"),
         ("use output::internal::*;", "';' is expected"),
         ("use output::internal::put as write;", "';' is expected"),
+        ("use output::internal::{put as write};", "',' is expected"),
+        ("use output::{internal::put};", "',' is expected"),
+        ("use output::internal::{put, *};", "a name is expected"),
         ("fn planted() { let a = unknown(); }", "nothing says what unknown is"),
         ("fn planted(a: Unknown) {}", "nothing says what Unknown is"),
         ("fn planted() { let a = [0u8; UNKNOWN]; }", "nothing says what UNKNOWN is"),
@@ -198,11 +196,14 @@ fn what_cannot_be_read_is_refused() {
         ("fn planted() { 'o: other {} }", "a loop is expected here"),
         ("fn planted() { ({ let c = 1; c }) = 5; let a = c; }", "nothing says what c is"),
         (
-            "fn planted() ensures { ⌜ a ⌝ -- {\n} { let a = [0u8; 400]; }\n// } {}",
+            "fn planted() ensures { a -- {\n} { let a = [0u8; 400]; }\n// } {}",
             "a comment in a clause",
         ),
-        ("fn planted() ensures { ⌜ a ⌝ {- { -} } { let a = [0u8; 400]; }", "a comment in a clause"),
-        ("ghost use lib.ListN.{length, -- ; const N: usize = 5;\ntake};", "a comment in a clause"),
+        ("fn planted() ensures { a {- { -} } { let a = [0u8; 400]; }", "a comment in a clause"),
+        (
+            "ghost use Rattle.std.specs.Prelude.{length, -- ; const N: usize = 5;\ntake};",
+            "a comment in a clause",
+        ),
         ("fn planted() { let a = b\"x; }", "the source ends too early"),
         ("fn planted() {", "a bracket is not closed"),
         ("/* fn planted() {}", "the source ends too early"),
