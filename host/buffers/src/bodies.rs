@@ -1,5 +1,6 @@
 //! The body of a function: its locals, and what it makes without a name.
 
+use crate::generics::Signature;
 use crate::reader::Reader;
 use crate::remark::Read;
 use crate::tokens::Word;
@@ -27,7 +28,7 @@ impl Reader<'_> {
     /// Reads a function, and judges its locals.
     pub fn function(&mut self) -> Read<()> {
         let line = self.cursor.line();
-        let (parameters, result) = self.signature()?;
+        let Signature { parameters, result } = self.signature()?;
         for (name, of) in parameters {
             self.bind(name, of)?;
         }
@@ -43,14 +44,15 @@ impl Reader<'_> {
         Ok(())
     }
 
-    fn hold(&mut self, of: &Type) -> Read<()> {
+    pub fn hold(&mut self, of: &Type) -> Read<()> {
+        self.few_parts(of)?;
         self.held = self.held.saturating_add(self.bytes_of(of)?);
         Ok(())
     }
 
-    /// Counts an array or a struct that has no name.
+    /// Counts what has no name and is made of several parts, or may be.
     pub fn hold_unnamed(&mut self, value: &Value) -> Read<()> {
-        if value.made && matches!(value.of, Type::Array(..) | Type::Declared(..)) {
+        if value.made && value.of.has_parts() {
             self.hold(&value.of)?;
         }
         Ok(())
@@ -85,7 +87,7 @@ impl Reader<'_> {
             last = self.inside(|reader| reader.statement(wanted))?.of;
             ends |= last == Type::Never;
         }
-        self.locals.truncate(in_scope);
+        self.leave_scope(in_scope);
         Ok(made(if ends { Type::Never } else { last }))
     }
 
@@ -118,7 +120,9 @@ impl Reader<'_> {
             of = self.read_type()?;
         }
         let mut value = placed(Type::Unset);
+        let mut value_at = self.cursor.at;
         if self.cursor.skip_if("=") {
+            value_at = self.cursor.at;
             value = self.expression(&of)?;
             if of == Type::Unset {
                 of = value.of.clone();
@@ -127,8 +131,13 @@ impl Reader<'_> {
         if self.cursor.skip_if("else") {
             self.block(&Type::Never)?;
         }
+        let is_untyped = self.untyped_array == Some((value_at, self.cursor.at));
         self.cursor.expect(";")?;
+        let held = self.held;
         let takes_all = self.pattern_at(pattern_at, &of)?;
+        if takes_all && is_untyped {
+            self.wait_for_type(held, &of)?;
+        }
         if !takes_all {
             self.hold_unnamed(&value)?;
         }

@@ -26,19 +26,21 @@ impl Reader<'_> {
             }
             _ => reader.cursor.fault("a loop is expected here"),
         })?;
-        self.locals.truncate(in_scope);
+        self.leave_scope(in_scope);
         Ok(made(of))
     }
 
-    /// The local of a `for` and the range that it goes through.
+    /// The pattern of a `for` and what it goes through. An array is moved to go through it.
     fn counted(&mut self) -> Read<()> {
         let pattern_at = self.cursor.at;
         self.cursor.skip_to(&["in"])?;
         self.cursor.expect("in")?;
-        let Type::Range(of) = self.tested()?.of else {
-            return self.cursor.fault("a range is expected before this");
-        };
-        self.pattern_at(pattern_at, &of)?;
+        let through = self.tested()?;
+        if !through.made && through.of.has_parts() {
+            self.hold(&through.of)?;
+        }
+        let item = self.item_of(&through.of)?;
+        self.pattern_at(pattern_at, &item)?;
         Ok(())
     }
 
@@ -46,7 +48,7 @@ impl Reader<'_> {
         let in_scope = self.locals.len();
         self.condition()?;
         let taken = self.block(wanted)?.of;
-        self.locals.truncate(in_scope);
+        self.leave_scope(in_scope);
         if !self.cursor.skip_if("else") {
             return Ok(Type::Other);
         }
@@ -61,10 +63,13 @@ impl Reader<'_> {
         while !self.cursor.skip_if("}") {
             let in_scope = self.locals.len();
             self.pattern(&matched)?;
+            if self.cursor.skip_if("if") {
+                self.condition()?;
+            }
             self.cursor.expect("=>")?;
             let arm = self.inside(|reader| reader.arm(wanted))?;
             of = joined(of, arm.of);
-            self.locals.truncate(in_scope);
+            self.leave_scope(in_scope);
             self.cursor.skip_if(",");
         }
         Ok(of)
@@ -88,6 +93,9 @@ impl Reader<'_> {
 
     /// A return, break or continue, with the value that it carries or none.
     pub fn jump(&mut self, keyword: &str) -> Read<Value> {
+        if keyword == "return" && self.closure_from.is_some() {
+            return self.cursor.fault("a return in a closure");
+        }
         self.cursor.step();
         let index = self.loop_named()?;
         let wanted = match (keyword, index) {
@@ -95,7 +103,7 @@ impl Reader<'_> {
             _ => self.result.clone(),
         };
         let mut of = Type::Other;
-        if !self.cursor.is_any(&[";", "}", ","]) {
+        if !self.cursor.is_any(&[";", "}", ",", ")", "]"]) {
             of = self.expression(&wanted)?.of;
         }
         if let ("break", Some(index)) = (keyword, index) {

@@ -7,12 +7,14 @@ use crate::tokens::{Token, Word};
 pub struct Cursor<'a> {
     tokens: &'a [Token],
     pub at: usize,
+    /// Whether the first half of the `>>` that stands here was stepped over.
+    half: bool,
 }
 
 impl<'a> Cursor<'a> {
     /// The last of the tokens is the end.
     pub fn new(tokens: &'a [Token], at: usize) -> Cursor<'a> {
-        Cursor { tokens, at }
+        Cursor { tokens, at, half: false }
     }
 
     pub fn word(&self) -> &'a Word {
@@ -96,12 +98,27 @@ impl<'a> Cursor<'a> {
     }
 
     /// Steps over the lifetimes in angle brackets where they stand here.
-    pub fn skip_lifetimes(&mut self) {
-        if self.is("<") && matches!(self.ahead(1), Word::Lifetime(_)) {
-            while !self.skip_if(">") && *self.word() != Word::End {
-                self.step();
-            }
+    pub fn skip_lifetimes(&mut self) -> Read<()> {
+        if !self.is("<") || !matches!(self.ahead(1), Word::Lifetime(_)) {
+            return Ok(());
         }
+        self.step();
+        while self.skip_lifetime() {
+            self.skip_if(",");
+        }
+        self.close_angle()
+    }
+
+    /// Steps over one `>`, which may be half of a `>>`.
+    pub fn close_angle(&mut self) -> Read<()> {
+        if !self.is(">>") {
+            return self.expect(">");
+        }
+        self.half = !self.half;
+        if !self.half {
+            self.step();
+        }
+        Ok(())
     }
 
     /// Steps over `pub` where it stands here, with what it may have in parentheses.

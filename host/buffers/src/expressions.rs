@@ -1,6 +1,8 @@
 //! Expressions, and the type that each comes to.
 
 use crate::bodies::{made, placed, Value};
+use crate::choices::choice_named;
+use crate::generics::{Meant, Signature};
 use crate::items::Kind;
 use crate::reader::Reader;
 use crate::remark::Read;
@@ -10,12 +12,26 @@ use crate::types::{built_in, number_type, Type};
 /// Where a range may end without a number.
 const ENDS: [&str; 6] = [";", "}", ",", ")", "]", "{"];
 
+/// What branches and loops begin with.
+pub const CONTROLS: [&str; 5] = ["if", "match", "while", "loop", "for"];
+
+/// What goes on from a value.
+const TAKES_ON: [&str; 3] = [".", "[", "?"];
+
 /// The type of two numbers together, or of two ways to one value.
 pub fn joined(left: Type, right: Type) -> Type {
     match left {
         Type::Untyped | Type::Unset | Type::Never => right,
         _ => left,
     }
+}
+
+/// The type of a value that nothing else tells more of than a hint: a number is a byte then.
+pub fn counted(of: Type, hint: &Type) -> Type {
+    if of == Type::Never {
+        return of;
+    }
+    joined(joined(of, hint.clone()), Type::Byte)
 }
 
 impl Reader<'_> {
@@ -52,6 +68,10 @@ impl Reader<'_> {
     }
 
     fn assigned(&mut self, to: &Value) -> Read<Value> {
+        // The locals in it would get a type that is not seen.
+        if to.made && to.of.has_parts() {
+            return self.cursor.fault("what is made of parts is assigned to");
+        }
         self.cursor.step();
         let value = self.deeper(|reader| reader.expression(&to.of))?;
         if let Some(local) = to.local {
@@ -96,16 +116,43 @@ impl Reader<'_> {
         if self.cursor.skip_if("!") || self.cursor.skip_if("-") {
             return Ok(made(self.deeper(|reader| reader.unary(wanted))?.of));
         }
+        // Of what a part is taken, or a method is called, the type is another one than the wanted.
+        let wanted = if self.is_taken_on() { &Type::Untyped } else { wanted };
+        let is_control = self.cursor.is_any(&CONTROLS);
         let mut value = self.primary(wanted)?;
+        if is_control && self.cursor.is_any(&TAKES_ON) {
+            return self.cursor.fault("parentheses are expected around what ends here");
+        }
         loop {
             if self.cursor.skip_if(".") {
                 value = self.member(&value)?;
             } else if self.cursor.skip_if("[") {
                 value = self.element(&value)?;
+            } else if self.cursor.skip_if("?") {
+                value = self.contents(&value)?;
             } else {
                 return Ok(value);
             }
         }
+    }
+
+    /// Whether the value that begins here is followed by what takes a part of it or calls a method.
+    fn is_taken_on(&self) -> bool {
+        let mut cursor = self.cursor.clone();
+        if cursor.is_any(&CONTROLS) {
+            return false;
+        }
+        let mut begins_brackets = cursor.is_any(&["(", "[", "{"]);
+        if let Word::Name(_) = cursor.word() {
+            if cursor.path().is_err() {
+                return false;
+            }
+            begins_brackets = cursor.is("(") || self.takes_fields && cursor.is("{");
+        } else if !begins_brackets {
+            cursor.step();
+        }
+        let is_read = !begins_brackets || cursor.skip_brackets().is_ok();
+        is_read && cursor.is_any(&TAKES_ON)
     }
 
     /// An element of a value, or a part of its elements.
@@ -135,6 +182,11 @@ impl Reader<'_> {
         if self.cursor.is("(") {
             return self.method(of, &name);
         }
+        if let (Type::Tuple(parts), Ok(index)) = (of, name.parse::<usize>()) {
+            if let Some(part) = parts.get(index) {
+                return Ok(placed(part.clone()));
+            }
+        }
         if let Type::Declared(item) = of {
             let mut fields = self.shapes(*item)?.into_iter().flat_map(|shape| shape.fields);
             if let Some((_, field)) = fields.find(|field| field.0 == name) {
@@ -144,61 +196,72 @@ impl Reader<'_> {
         self.nothing_says(&[name])
     }
 
-    /// A call of a function of a value's type. A value of the language has a length alone, and a
-    /// number those that wrap round and give such a number.
-    fn method(&mut self, of: &Type, name: &str) -> Read<Value> {
-        let own = match of {
-            Type::Declared(item) => self.sources.own_item(*item, name),
-            _ => None,
-        };
-        let (parameters, result) = match (own, of.element()) {
-            (Some(method), _) => self.reader_of(method).signature()?,
-            (None, Some(_)) if name == "len" => (Vec::new(), Type::Other),
-            (None, None)
-                if matches!(of, Type::Byte | Type::Other) && name.starts_with("wrapping_") =>
-            {
-                (Vec::new(), of.clone())
-            }
-            _ => return self.nothing_says(&[name.to_string()]),
-        };
-        // The first is the value itself.
-        self.arguments(parameters.get(1..).unwrap_or(&[]), true)?;
-        Ok(made(result))
-    }
-
-    /// The values between parentheses: passed to a function, or made the fields of a value.
-    fn arguments(&mut self, parameters: &[(String, Type)], passed: bool) -> Read<()> {
-        let mut wanted = parameters.iter().map(|parameter| &parameter.1);
+    /// The values between parentheses: passed to a function, or made the fields of a value. What the
+    /// type parameters stand for is told by them.
+    pub fn arguments(
+        &mut self,
+        parameters: &[(String, Type)],
+        passed: bool,
+        meant: &mut Meant,
+    ) -> Read<()> {
+        let mut parameters = parameters.iter().map(|parameter| &parameter.1);
         self.cursor.expect("(")?;
         while !self.cursor.skip_if(")") {
-            let of = wanted.next().unwrap_or(&Type::Untyped);
-            let argument = self.inside(|reader| reader.expression(of))?;
+            let parameter = parameters.next().unwrap_or(&Type::Untyped);
+            let wanted = parameter.replaced(meant);
+            let argument = self.inside(|reader| reader.expression(&wanted))?;
             if passed {
                 self.hold_unnamed(&argument)?;
             }
+            self.meet(parameter, &argument.of, meant)?;
             self.cursor.skip_if(",");
         }
         Ok(())
     }
 
     /// A call of a function, or a struct or a variant from its fields.
-    fn called(&mut self, path: &[String]) -> Read<Value> {
+    fn called(&mut self, path: &[String], wanted: &Type) -> Read<Value> {
+        if let Some(name) = choice_named(path) {
+            return self.choice(name, wanted);
+        }
+        if let Some(signature) = self.local_function(path) {
+            return self.call(&signature, 0);
+        }
+        if self.sources.whole_path(self.item.file, path) == ["std", "array", "from_fn"] {
+            return self.array_from_function(wanted);
+        }
         if let Some(number) = self.number_function(path)? {
-            self.arguments(&[], true)?;
+            self.arguments(&[], true, &mut Meant::new())?;
             return Ok(made(number));
         }
+        if let Some(item) = self.function_named(path)? {
+            let signature = self.reader_of(item).signature()?;
+            return self.call(&signature, 0);
+        }
+        let (of, shape) = self.shape_named(path)?;
+        self.arguments(&shape.fields, false, &mut Meant::new())?;
+        Ok(made(of))
+    }
+
+    /// A call of a function, of whose parameters so many come before the parentheses.
+    pub fn call(&mut self, signature: &Signature, before: usize) -> Read<Value> {
+        let mut meant = Meant::new();
+        let parameters = signature.parameters.get(before..).unwrap_or(&[]);
+        self.arguments(parameters, true, &mut meant)?;
+        let result = signature.result.replaced(&meant);
+        if result.is_open() {
+            return self.cursor.fault("nothing says what a type parameter stands for");
+        }
+        Ok(made(result))
+    }
+
+    /// The function that a path names, by itself or as a type's own.
+    pub fn function_named(&self, path: &[String]) -> Read<Option<usize>> {
         let function = match self.owner_in(path)? {
             Some(Type::Declared(of)) => self.own_function(of, &path[path.len() - 1])?,
             _ => self.named(path),
         };
-        if let Some(item) = function.filter(|item| self.kind_of(*item) == Kind::Function) {
-            let (parameters, result) = self.reader_of(item).signature()?;
-            self.arguments(&parameters, true)?;
-            return Ok(made(result));
-        }
-        let (of, shape) = self.shape_named(path)?;
-        self.arguments(&shape.fields, false)?;
-        Ok(made(of))
+        Ok(function.filter(|item| self.kind_of(*item) == Kind::Function))
     }
 
     /// The function of a type, where no variant has its name.
@@ -209,12 +272,17 @@ impl Reader<'_> {
 
     /// What a function of the language gives, which is on numbers: its path goes through their type,
     /// or is `std::num` and a name that ends with it.
-    fn number_function(&self, path: &[String]) -> Read<Option<Type>> {
+    pub fn number_function(&self, path: &[String]) -> Read<Option<Type>> {
         match &self.sources.whole_path(self.item.file, path)[..] {
             [first, second, name] if first == "std" && second == "num" => {
-                Ok(name.rsplit('_').next().and_then(built_in))
+                let number = name.rsplit('_').next().and_then(built_in);
+                Ok(number.filter(|_| gives_number(name)))
             }
-            _ => Ok(self.owner_in(path)?.filter(|of| !matches!(of, Type::Declared(_)))),
+            _ => {
+                let is_number = |of: &Type| matches!(of, Type::Byte | Type::Other);
+                let gives = path.last().is_some_and(|name| gives_number(name));
+                Ok(self.owner_in(path)?.filter(|of| gives && is_number(of)))
+            }
         }
     }
 
@@ -226,6 +294,7 @@ impl Reader<'_> {
             Word::Sign("{") => return self.block(wanted),
             Word::Sign("(") => return self.parenthesized(wanted),
             Word::Sign(".." | "..=") => return self.range(Type::Untyped),
+            Word::Sign("|" | "||") => return self.closure(wanted),
             Word::Name(name) => return self.name_or_keyword(name, wanted),
             Word::Sign(_) | Word::Text | Word::End => {
                 return self.cursor.fault("a value is expected here");
@@ -246,19 +315,48 @@ impl Reader<'_> {
         }
     }
 
+    /// Nothing, a value in parentheses, or a tuple.
     fn parenthesized(&mut self, wanted: &Type) -> Read<Value> {
+        let line = self.cursor.line();
         self.cursor.expect("(")?;
         if self.cursor.skip_if(")") {
             return Ok(made(Type::Other));
+        }
+        let mut first_end = self.cursor.clone();
+        first_end.skip_to(&[",", ")"])?;
+        // A closure may have a comma between its parameters.
+        if first_end.is(",") && !self.cursor.is("|") {
+            return self.tuple(line, wanted);
         }
         let value = self.inside(|reader| reader.expression(wanted))?;
         self.cursor.expect(")")?;
         Ok(value)
     }
 
+    /// The parts of a tuple. Numbers whose type nothing says are counted as bytes.
+    fn tuple(&mut self, line: usize, wanted: &Type) -> Read<Value> {
+        let hints = if let Type::Tuple(parts) = wanted { &parts[..] } else { &[] };
+        let mut parts = Vec::new();
+        while !self.cursor.skip_if(")") {
+            let hint = hints.get(parts.len()).unwrap_or(&Type::Untyped);
+            let part = self.inside(|reader| reader.expression(hint))?.of;
+            parts.push(counted(part, hint));
+            if !self.cursor.is(")") {
+                self.cursor.expect(",")?;
+            }
+        }
+        if parts.contains(&Type::Never) {
+            return Ok(made(Type::Never));
+        }
+        let tuple = Type::Tuple(parts);
+        let bytes = self.bytes_of(&tuple)?;
+        self.judge(line, "a tuple of", bytes);
+        Ok(made(tuple))
+    }
+
     /// The elements of an array. Numbers whose type nothing says are counted as bytes.
     fn array(&mut self, wanted: &Type) -> Read<Value> {
-        let line = self.cursor.line();
+        let (line, at) = (self.cursor.line(), self.cursor.at);
         self.cursor.expect("[")?;
         let hint = wanted.element().cloned().unwrap_or(Type::Untyped);
         let mut element = Type::Untyped;
@@ -271,7 +369,17 @@ impl Reader<'_> {
             }
             self.cursor.skip_if(",");
         }
-        element = joined(joined(element, hint), Type::Byte);
+        if joined(element.clone(), hint.clone()) == Type::Untyped {
+            self.untyped_array = Some((at, self.cursor.at));
+        }
+        self.array_of(line, counted(element, &hint), length)
+    }
+
+    /// An array that is made.
+    pub fn array_of(&mut self, line: usize, element: Type, length: u64) -> Read<Value> {
+        if element == Type::Never {
+            return Ok(made(Type::Never));
+        }
         let array = Type::Array(Box::new(element), length);
         let bytes = self.bytes_of(&array)?;
         self.judge(line, "an array of", bytes);
@@ -280,26 +388,31 @@ impl Reader<'_> {
 
     fn name_or_keyword(&mut self, name: &str, wanted: &Type) -> Read<Value> {
         match name {
-            "if" | "match" | "while" | "loop" | "for" => self.control(None, wanted),
+            name if CONTROLS.contains(&name) => self.control(None, wanted),
             "return" | "break" | "continue" => self.jump(name),
             "true" | "false" => {
                 self.cursor.step();
                 Ok(made(Type::Other))
             }
-            _ => self.path_value(),
+            _ => self.path_value(wanted),
         }
     }
 
-    fn path_value(&mut self) -> Read<Value> {
+    fn path_value(&mut self, wanted: &Type) -> Read<Value> {
         let path = self.cursor.path()?;
         if self.cursor.is("(") {
-            return self.called(&path);
+            return self.called(&path, wanted);
+        }
+        if path == ["None"] {
+            return self.none(wanted);
         }
         if self.takes_fields && self.cursor.is("{") {
             return self.fields(&path);
         }
         match self.locals.iter().rposition(|local| path == [local.0.as_str()]) {
             Some(local) => {
+                self.taken_in(local)?;
+                self.told(local, wanted);
                 let of = self.locals[local].1.clone();
                 Ok(Value { local: Some(local), ..placed(of) })
             }
@@ -321,20 +434,38 @@ impl Reader<'_> {
             let field = shape.fields.iter().find(|field| field.0 == name);
             if self.cursor.skip_if(":") {
                 self.expression(field.map_or(&Type::Untyped, |field| &field.1))?;
+            } else if let Some(local) = self.locals.iter().rposition(|local| local.0 == name) {
+                self.taken_in(local)?;
+                self.told(local, field.map_or(&Type::Untyped, |field| &field.1));
             }
             self.cursor.skip_if(",");
         }
         Ok(made(of))
     }
 
-    /// A constant, or a variant or struct without fields.
+    /// A constant, a function, or a variant or struct, which is a function where it has fields.
     fn constant_value(&self, path: &[String]) -> Read<Value> {
         if let Some(item) = self.constant_named(path)? {
             return Ok(made(self.reader_of(item).constant_type()?));
         }
-        match built_in(&path[0]) {
-            Some(of) => Ok(made(of)),
-            None => Ok(made(self.shape_named(path)?.0)),
+        if let Some(function) = self.function_value(path)? {
+            return Ok(made(function));
         }
+        if let Some(of) = built_in(&path[0]) {
+            return Ok(made(of));
+        }
+        let (of, shape) = self.shape_named(path)?;
+        if shape.fields.is_empty() {
+            return Ok(made(of));
+        }
+        let fields = shape.fields.into_iter().map(|field| field.1).collect();
+        Ok(made(Type::Function(fields, Box::new(of))))
     }
+}
+
+/// Whether a function of a number's type gives such a number, by its name.
+pub fn gives_number(name: &str) -> bool {
+    let starts = ["wrapping_", "saturating_"];
+    ["from", "leading_zeros", "min", "max"].contains(&name)
+        || starts.iter().any(|start| name.starts_with(start))
 }

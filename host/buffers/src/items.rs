@@ -3,7 +3,7 @@
 use crate::cursor::Cursor;
 use crate::remark::Read;
 use crate::tokens::{Token, Word};
-use crate::types::built_in;
+use crate::types::is_of_language;
 
 #[derive(Clone, Copy, PartialEq)]
 pub enum Kind {
@@ -26,8 +26,14 @@ pub struct Item {
     pub owner: Option<String>,
 }
 
-/// The items of the file of this index, and the paths that it imports.
-pub fn read_items(file: usize, tokens: &[Token]) -> Read<(Vec<Item>, Vec<Vec<String>>)> {
+/// A path that a source imports, and the name that it has there.
+pub struct Import {
+    pub name: String,
+    pub path: Vec<String>,
+}
+
+/// The items of the file of this index, and what it imports.
+pub fn read_items(file: usize, tokens: &[Token]) -> Read<(Vec<Item>, Vec<Import>)> {
     let cursor = Cursor::new(tokens, 0);
     let mut list = List { cursor, file, items: Vec::new(), imports: Vec::new() };
     while *list.cursor.word() != Word::End {
@@ -40,7 +46,7 @@ struct List<'a> {
     cursor: Cursor<'a>,
     file: usize,
     items: Vec<Item>,
-    imports: Vec<Vec<String>>,
+    imports: Vec<Import>,
 }
 
 impl List<'_> {
@@ -50,9 +56,10 @@ impl List<'_> {
             self.cursor.skip_if("!");
             return self.cursor.skip_brackets();
         }
+        let is_public = self.cursor.is("pub");
         self.cursor.skip_visibility()?;
         if self.cursor.skip_if("use") {
-            return self.import();
+            return self.import(is_public);
         }
         if self.cursor.skip_if("mod") {
             self.cursor.name()?;
@@ -70,18 +77,21 @@ impl List<'_> {
         self.declared(owner)
     }
 
-    /// Reads an import of one path, or of names in braces behind one. None of them is given another
-    /// name, so that a name stands for one thing.
-    fn import(&mut self) -> Read<()> {
+    /// Reads an import of one path, or of names in braces behind one. Only a path that is passed on
+    /// is given another name, so that within a source a name stands for one thing.
+    fn import(&mut self, is_public: bool) -> Read<()> {
         let path = self.cursor.path()?;
         if *self.cursor.ahead(1) != Word::Sign("{") {
-            self.imports.push(path);
+            let renamed = is_public && self.cursor.skip_if("as");
+            let name = if renamed { Some(self.cursor.name()?) } else { None };
+            self.imported(path, name)?;
             return self.cursor.expect(";");
         }
         self.cursor.expect("::")?;
         self.cursor.expect("{")?;
         while !self.cursor.skip_if("}") {
-            self.imports.push([&path[..], &[self.cursor.name()?]].concat());
+            let path = [&path[..], &[self.cursor.name()?]].concat();
+            self.imported(path, None)?;
             if !self.cursor.is("}") {
                 self.cursor.expect(",")?;
             }
@@ -89,10 +99,39 @@ impl List<'_> {
         self.cursor.expect(";")
     }
 
+    /// Takes in an import under its last name or another one.
+    fn imported(&mut self, path: Vec<String>, renamed: Option<String>) -> Read<()> {
+        let Some(name) = renamed.or(path.last().cloned()) else {
+            return self.cursor.fault("an import of nothing");
+        };
+        self.own_name(&name)?;
+        self.imports.push(Import { name, path });
+        Ok(())
+    }
+
+    /// A name that a source gives to something is none of the language.
+    fn own_name(&self, name: &str) -> Read<()> {
+        if is_of_language(name) {
+            return self.cursor.fault(format!("another {name} than that of the language"));
+        }
+        Ok(())
+    }
+
+    /// The functions of a type, also those by which it is made from another. Of the traits that is
+    /// the only one: others change what operators, `for` and calls of methods come to.
     fn owned_items(&mut self) -> Read<()> {
-        self.cursor.skip_lifetimes();
-        let owner = self.cursor.name()?;
-        self.cursor.skip_lifetimes();
+        self.cursor.skip_lifetimes()?;
+        let mut owner = self.cursor.name()?;
+        self.cursor.skip_lifetimes()?;
+        if owner == "From" {
+            self.cursor.expect("<")?;
+            self.cursor.path()?;
+            self.cursor.skip_lifetimes()?;
+            self.cursor.close_angle()?;
+            self.cursor.expect("for")?;
+            owner = self.cursor.name()?;
+            self.cursor.skip_lifetimes()?;
+        }
         self.cursor.expect("{")?;
         while !self.cursor.skip_if("}") {
             self.item(Some(&owner))?;
@@ -107,9 +146,7 @@ impl List<'_> {
         };
         self.cursor.step();
         let name = self.cursor.name()?;
-        if built_in(&name).is_some() {
-            return self.cursor.fault(format!("another {name} than that of the language"));
-        }
+        self.own_name(&name)?;
         let at = self.cursor.at;
         let has_value = matches!(kind, Kind::Constant | Kind::Alias);
         self.cursor.skip_to(if has_value { &[";"] } else { &[";", "{"] })?;

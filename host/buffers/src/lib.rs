@@ -2,12 +2,16 @@
 //! sources of the crates that make replies and of all that they call.
 
 mod bodies;
+mod choices;
+mod closures;
 mod control;
 mod crates;
 mod cursor;
 mod expressions;
+mod generics;
 mod items;
 mod look;
+mod methods;
 mod numbers;
 mod patterns;
 mod reader;
@@ -15,6 +19,7 @@ mod remark;
 mod sources;
 mod tokens;
 mod types;
+mod waiting;
 
 pub use look::{look, Report};
 pub use remark::{Finding, Remark};

@@ -1,5 +1,6 @@
 //! Patterns, and the locals that they bind.
 
+use crate::choices::choice_named;
 use crate::items::Kind;
 use crate::reader::Reader;
 use crate::remark::Read;
@@ -31,7 +32,7 @@ impl Reader<'_> {
         Ok(takes_all)
     }
 
-    fn one_pattern(&mut self, of: &Type) -> Read<bool> {
+    pub fn one_pattern(&mut self, of: &Type) -> Read<bool> {
         if self.cursor.skip_if("&") {
             let Type::Lent(of) = of else {
                 return self.cursor.fault("what is no reference is followed");
@@ -39,18 +40,21 @@ impl Reader<'_> {
             return self.one_pattern(of);
         }
         if self.cursor.skip_if("(") {
-            let takes_all = self.pattern(of)?;
-            self.cursor.expect(")")?;
-            return Ok(takes_all);
+            return self.tuple_pattern(of);
         }
         self.cursor.skip_if("mut");
         if !matches!(self.cursor.word(), Word::Name(_)) {
             return self.numbers_pattern();
         }
+        if self.cursor.is("ref") {
+            return self.cursor.fault("a pattern that lends what it binds");
+        }
         let path = self.cursor.path()?;
+        if let Some(name) = choice_named(&path) {
+            return self.choice_pattern(name, of);
+        }
         if self.cursor.is_any(&["(", "{"]) {
-            let lent = matches!(of, Type::Lent(_));
-            self.parts(&path, usize::from(lent))?;
+            self.parts(&path, references_of(of))?;
             return Ok(false);
         }
         if self.cursor.is_any(&["..", "..="]) {
@@ -61,6 +65,47 @@ impl Reader<'_> {
             self.bind(path[0].clone(), of.clone())?;
         }
         Ok(is_local)
+    }
+
+    /// The patterns between parentheses: none, one, or those of the parts of a tuple.
+    fn tuple_pattern(&mut self, of: &Type) -> Read<bool> {
+        if self.cursor.skip_if(")") {
+            return Ok(false);
+        }
+        let mut first_end = self.cursor.clone();
+        first_end.skip_to(&[",", ")"])?;
+        if first_end.is(")") {
+            let takes_all = self.pattern(of)?;
+            self.cursor.expect(")")?;
+            return Ok(takes_all);
+        }
+        let Type::Tuple(parts) = of.behind() else {
+            return self.cursor.fault("what is no tuple is taken apart");
+        };
+        for part in parts {
+            self.pattern(&part.clone().lent(references_of(of)))?;
+            if !self.cursor.is(")") {
+                self.cursor.expect(",")?;
+            }
+        }
+        self.cursor.expect(")")?;
+        Ok(false)
+    }
+
+    /// What stands behind `Some`, `Ok` or `Err`, and nothing behind `None`.
+    fn choice_pattern(&mut self, name: &str, of: &Type) -> Read<bool> {
+        let contents = match (name, of.behind()) {
+            ("None", Type::Option(_)) => return Ok(false),
+            ("Some", Type::Option(contents)) => contents,
+            ("Ok", Type::Result(contents, _)) => contents,
+            ("Err", Type::Result(_, contents)) => contents,
+            _ => return self.nothing_says(&[name.to_string()]),
+        };
+        self.cursor.expect("(")?;
+        self.pattern(&contents.as_ref().clone().lent(references_of(of)))?;
+        self.cursor.skip_if(",");
+        self.cursor.expect(")")?;
+        Ok(false)
     }
 
     /// Whether a path in a pattern is the name of a local, which a constant and a struct without
@@ -80,8 +125,9 @@ impl Reader<'_> {
     /// A number, or two with a range between them: nothing is bound.
     fn numbers_pattern(&mut self) -> Read<bool> {
         let start = self.cursor.at;
-        while matches!(self.cursor.word(), Word::Number(..) | Word::Byte | Word::Name(_))
-            || self.cursor.is_any(&["-", "..", "..=", "::"])
+        while !self.cursor.is("if")
+            && (matches!(self.cursor.word(), Word::Number(..) | Word::Byte | Word::Name(_))
+                || self.cursor.is_any(&["-", "..", "..=", "::"]))
         {
             self.cursor.step();
         }
@@ -115,4 +161,9 @@ impl Reader<'_> {
         }
         Ok(())
     }
+}
+
+/// How often the parts of what is lent are lent.
+fn references_of(of: &Type) -> usize {
+    usize::from(matches!(of, Type::Lent(_)))
 }

@@ -5,6 +5,7 @@ use crate::items::{Item, Kind};
 use crate::remark::{Read, Remark};
 use crate::sources::Sources;
 use crate::types::Type;
+use crate::waiting::Waiting;
 
 /// What stands in one another deeper than this is not read: it may stand in itself.
 const DEEPEST: u32 = 200;
@@ -32,6 +33,14 @@ pub struct Reader<'a> {
     pub loops: Vec<Loop>,
     /// What the function gives.
     pub result: Type,
+    /// The type parameters of the function.
+    pub generics: Vec<(String, Type)>,
+    /// Where the last array of numbers whose type nothing said yet began and ended.
+    pub untyped_array: Option<(usize, usize)>,
+    /// The locals that such an array was given to.
+    pub waiting: Vec<Waiting>,
+    /// In a closure, how many locals stand around it.
+    pub closure_from: Option<usize>,
     /// Whether a brace after a path begins the fields of a struct.
     pub takes_fields: bool,
 }
@@ -48,6 +57,10 @@ impl<'a> Reader<'a> {
             held: 0,
             loops: Vec::new(),
             result: Type::Never,
+            generics: Vec::new(),
+            untyped_array: None,
+            waiting: Vec::new(),
+            closure_from: None,
             takes_fields: true,
         }
     }

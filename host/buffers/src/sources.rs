@@ -7,16 +7,16 @@ use std::io;
 use std::path::Path;
 
 use crate::crates::{crates_that_make_replies, sources_below};
-use crate::items::{read_items, Item};
+use crate::items::{read_items, Import, Item};
 use crate::remark::{Finding, Read, Remark};
 use crate::tokens::{tokens, Token};
-use crate::types::built_in;
+use crate::types::is_of_language;
 
 pub struct Source {
     pub path: String,
     /// The crate and the modules in it that lead to this one.
     pub module: Vec<String>,
-    pub imports: Vec<Vec<String>>,
+    pub imports: Vec<Import>,
     pub tokens: Vec<Token>,
 }
 
@@ -86,7 +86,7 @@ impl Sources {
         self.items.iter().position(stands_there).or_else(|| {
             // The module may pass on what it imports itself.
             let imports_it =
-                |source: &Source| source.imports.iter().any(|import| import.last() == Some(name));
+                |source: &Source| source.imports.iter().any(|import| import.name == *name);
             let passes_on = |source: &Source| source.module == *module && imports_it(source);
             let other = self.files.iter().position(passes_on)?;
             self.named_through(other, std::slice::from_ref(name), most.checked_sub(1)?)
@@ -96,9 +96,9 @@ impl Sources {
     /// A path from its crate on.
     pub fn whole_path(&self, file: usize, path: &[String]) -> Vec<String> {
         let source = &self.files[file];
-        let import = source.imports.iter().find(|import| import.last() == path.first());
+        let import = source.imports.iter().find(|import| Some(&import.name) == path.first());
         let (start, rest) = match import {
-            Some(import) => (&import[..], &path[1..]),
+            Some(import) => (&import.path[..], &path[1..]),
             None => (path, &path[..0]),
         };
         let module = &source.module[..];
@@ -119,7 +119,7 @@ impl Sources {
     /// Modules that have the name of a crate or of a type of the language: a path that begins with
     /// it could lead to either.
     pub fn modules_named_twice(&self) -> impl Iterator<Item = Finding> + '_ {
-        let is_taken = |name: &String| self.is_crate(name) || built_in(name).is_some();
+        let is_taken = |name: &String| self.is_crate(name) || is_of_language(name);
         let files = self.files.iter().filter(move |file| file.module[1..].iter().any(is_taken));
         files.map(|file| {
             let text = "a module with the name of a crate or a type".to_string();
@@ -127,11 +127,17 @@ impl Sources {
         })
     }
 
-    /// The function or constant of a name in the `impl` of a type, which stands beside the type.
+    /// The function or constant of a name in an `impl` of a type, wherever that stands. Of several of
+    /// one name, which traits may give it, it is not known which is meant.
     pub fn own_item(&self, of: usize, name: &str) -> Option<usize> {
-        let (owner, file) = (&self.items[of].name, self.items[of].file);
-        let is_own = |item: &Item| item.owner.as_ref() == Some(owner) && item.file == file;
-        self.items.iter().position(|item| is_own(item) && item.name == name)
+        let is_own = |index: &usize| {
+            let Item { name: own_name, owner: Some(owner), file, .. } = &self.items[*index] else {
+                return false;
+            };
+            own_name == name && self.named(*file, std::slice::from_ref(owner)) == Some(of)
+        };
+        let mut found = (0..self.items.len()).filter(is_own);
+        found.next().filter(|_| found.next().is_none())
     }
 }
 

@@ -40,7 +40,8 @@ struct Lexer<'a> {
 
 pub fn tokens(text: &str) -> Read<Vec<Token>> {
     let mut lexer = Lexer { text: text.as_bytes(), at: 0, line: 1 };
-    let mut tokens = Vec::new();
+    let mut tokens: Vec<Token> = Vec::new();
+    let public = Word::Name("pub".to_string());
     loop {
         lexer.skip_space()?;
         let line = lexer.line;
@@ -56,7 +57,12 @@ pub fn tokens(text: &str) -> Read<Vec<Token>> {
                 lexer.skip_space()?;
                 lexer.skip_clause()?;
             }
-            Word::Name(name) if name == "ghost" => lexer.skip_ghost()?,
+            Word::Name(name) if name == "ghost" => {
+                let is_public = tokens.last().is_some_and(|last| last.word == public);
+                if lexer.skip_ghost()? && is_public {
+                    tokens.pop(); // What it makes public is left out.
+                }
+            }
             _ => tokens.push(Token { word, line }),
         }
     }
@@ -133,17 +139,31 @@ impl Lexer<'_> {
         }
     }
 
-    /// Skips a ghost clause, or a ghost line up to its end.
-    fn skip_ghost(&mut self) -> Read<()> {
+    /// Skips a ghost clause, a ghost line up to its end, or a ghost field or member, which is a name
+    /// and a clause. Gives whether it is one that may be public.
+    fn skip_ghost(&mut self) -> Read<bool> {
         self.skip_space()?;
         if self.ahead(0) == b'{' {
-            return self.skip_clause();
+            return self.skip_clause().and(Ok(false));
         }
-        if self.name() != "use" {
-            return self.fault("a ghost that is no clause and no import");
+        if self.name() == "use" {
+            while self.text_of_logic()? != b';' {}
+            return Ok(true);
         }
-        while self.text_of_logic()? != b';' {}
-        Ok(())
+        self.skip_space()?;
+        let end = match self.ahead(0) {
+            b':' => b',',
+            b'=' => b';',
+            _ => return self.fault("a ghost that is no clause and no import"),
+        };
+        self.step()?;
+        self.skip_space()?;
+        self.skip_clause()?;
+        self.skip_space()?;
+        if self.ahead(0) == end {
+            self.step()?;
+        }
+        Ok(true)
     }
 
     /// Skips the braces of a clause.

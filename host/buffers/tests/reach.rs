@@ -146,6 +146,16 @@ fn every_source_comes_to_an_end() {
     ] {
         SourceCopy::new().append(REPLIES, &text).is_refused(deep);
     }
+    let tuples = |k: usize| format!("type T{k} = (T{0}, T{0});", k - 1);
+    let results = |k: usize| format!("type T{k} = Result<T{0}, T{0}>;", k - 1);
+    let locals = |k: usize| format!("let a{k} = (a{0}, a{0});", k - 1);
+    for text in [
+        format!("type T0 = u64;\n{}", many(tuples)),
+        format!("type T0 = u64;\n{}", many(results)),
+        format!("fn planted() {{ let a0 = 1u64;\n{} }}", many(locals)),
+    ] {
+        SourceCopy::new().append(REPLIES, &text).is_refused("a type of too many parts");
+    }
     let structs = format!("struct S0 {{ a: u64 }}\n{}", many(structs));
     SourceCopy::new().append(REPLIES, &structs).passes();
     let lengths = format!("const N0: usize = 5;\n{}\nfn planted(a: [u8; N39]) {{}}", many(lengths));
@@ -171,7 +181,7 @@ fn what_cannot_be_read_is_refused() {
             "fn planted(m: &[u8]) { std::io::write_u8(m); }",
             "nothing says what std::io::write_u8 is",
         ),
-        ("fn planted(m: &[u8]) { for b in m {} }", "a range is expected"),
+        ("fn planted(m: &[u8]) { for b in m[0] {} }", "what has no items is gone through"),
         ("const PLANTED: u64 = 1 2;", "the item does not end here"),
         ("use output::internal::*;", "';' is expected"),
         ("use output::internal::put as write;", "';' is expected"),
@@ -183,9 +193,9 @@ fn what_cannot_be_read_is_refused() {
         ("fn planted() { let a = [0u8; UNKNOWN]; }", "nothing says what UNKNOWN is"),
         ("fn planted() { let a = [0u8; 1 - 2]; }", "a number that leaves 64 bits"),
         ("fn planted() { let a = br\"x\"; }", "nothing says what br is"),
-        ("fn planted() { let a = (1, 2); }", "')' is expected"),
+        ("fn planted() { let a = (1 2); }", "')' is expected"),
         ("fn planted() { let a = 'x'; }", "':' is expected"),
-        ("struct Planted { ghost n: { ℕ }, a: [u8; 400] }", "a ghost that is no clause"),
+        ("struct Planted { ghost n { ℕ }, a: [u8; 400] }", "a ghost that is no clause"),
         ("type u64 = u8;", "another u64 than that of the language"),
         ("struct bool { a: [u8; 200] }", "another bool than that of the language"),
         ("fn planted() { let a = [0u8; 4e2]; }", "a number that cannot be read"),
