@@ -1,6 +1,6 @@
 -- Laws of reading an address at an index of a message. Assumes nothing.
 use mathlib.Core.Path.{◌≡◌, refl, sym, ap, ◌∙◌}
-use mathlib.Core.Bool.{Bool, true, false, ◌&&◌, false≢true}
+use mathlib.Core.Bool.{Bool, true, false, ◌&&◌}
 use mathlib.Core.List.{List, [], ◌∷◌}
 use Prim.Native.Nat.{ℕ, zero, suc, ◌+◌, ◌-◌, ◌≤◌, ◌<◌}
 use native.Mathlib.Omega.{arith}
@@ -9,10 +9,10 @@ use lib.ListN.{length, take, drop, get_or, length-drop}
 use lib.Seq.{take-take, drop-drop, get_or-take, get_or-drop, length-take-le}
 use borrow.Author.Tests.{eq-eqb}
 use Rattle.laws.proofs.Tests.{and_left, and_right}
-use Rattle.digits.specs.declared.Digits.{Digits}
-use Rattle.digits.specs.declared.Digits.TheVariants.{Number, None}
+use Rattle.digits.specs.Decimal.{Digits}
+use Rattle.std.proofs.Common.{Some, None}
 use Rattle.digits.specs.Decimal.{all_digits, number_of, digits_of, is_number, number_in}
-use Rattle.addresses.specs.declared.Address.TheVariants.{Malformed, Code, Branch}
+use Rattle.addresses.specs.declared.Address.TheVariants.{Malformed, Branch}
 use Rattle.addresses.specs.Addresses.{code_address, is_branch, branch_address, address_of, code_digits}
 
 -- a part of the first n of a list
@@ -39,18 +39,24 @@ number-held s h = rw h
 pub five_bytes : (m : List ℕ) (from to : ℕ) (d : Digits) → to ≡ from + 5 → d ≡ digits_of (take (to - from) (drop from m)) → d ≡ digits_of (take 5 (drop from m))
 five_bytes m from to d h e = let k : to - from ≡ 5 = omega arith in e ∙ ap (λ (j : ℕ). digits_of (take j (drop from m))) k
 
--- five digits
-pub code_formed : (d : Digits) → is_number d ≡ true → Code (number_in d) ≡ code_address d
-code_formed None h = absurd (false≢true h)
-code_formed (Number n) h = refl
-
-pub code-malformed : (d : Digits) → is_number d ≡ false → Malformed ≡ code_address d
-code-malformed None h = refl
-code-malformed (Number n) h = absurd (false≢true (sym h))
-
 -- the test that the code makes of a long form
 abbrev pub formed : Digits → ℕ → Digits → ℕ → Bool
 formed d x e y = is_number d && eqb x 47 && is_number e && eqb y 47
+
+-- the same, where the two numbers are known or one of them is not there
+pub formed-both : (c b x y : ℕ) → formed (Some c) x (Some b) y ≡ (eqb x 47 && eqb y 47)
+formed-both c b x y = go (eqb x 47)
+  where
+    go : (t : Bool) → (true && t && true && eqb y 47) ≡ (t && eqb y 47)
+    go true = refl
+    go false = refl
+
+pub formed-second : (c x y : ℕ) → formed (Some c) x None y ≡ false
+formed-second c x y = go (eqb x 47)
+  where
+    go : (t : Bool) → (true && t && false && eqb y 47) ≡ false
+    go true = refl
+    go false = refl
 
 four : (a b c d : Bool) → a && b && c && d ≡ true → (a ≡ true) × (c ≡ true)
 four a b c d h =
@@ -101,7 +107,7 @@ five_is s e = rw (eq-eqb (length s) 5 e)
 -- and their code is what they hold
 held_by_code : (d : Digits) → code_digits (code_address d) ≡ d
 held_by_code None = refl
-held_by_code (Number n) = refl
+held_by_code (Some n) = refl
 
 pub code_of_five : (s : List ℕ) → length s ≡ 5 → digits_of s ≡ code_digits (address_of s)
 code_of_five s e = sym (ap code_digits (sym (five_is s e)) ∙ held_by_code (digits_of s))

@@ -1,7 +1,7 @@
 -- The address of a sender or recipient (change request S-1). Assumes nothing.
 use Rattle.std.specs.Prelude.{Bool, true, false, cond, ◌&&◌, List, [], ◌∷◌, ◌++◌, ℕ, eqb, ltb, length, take, drop, get_or}
-use Rattle.digits.specs.declared.Digits.{Digits}
-use Rattle.digits.specs.declared.Digits.TheVariants.{Number, None}
+use Rattle.digits.specs.Decimal.{Digits}
+use Rattle.std.specs.Prelude.{Some, None}
 use Rattle.digits.specs.Decimal.{all_digits, number_of, digits_of, digits}
 use Rattle.addresses.specs.declared.Address.{Address}
 use Rattle.addresses.specs.declared.Address.TheVariants.{Malformed, Code, Branch}
@@ -9,7 +9,7 @@ use Rattle.addresses.specs.declared.Address.TheVariants.{Malformed, Code, Branch
 -- the short form: five digits
 abbrev pub code_address : Digits → Address
 code_address None = Malformed
-code_address (Number n) = Code n
+code_address (Some n) = Code n
 
 -- 'the long sender and recipient form of the layout: five digits, slash, five digits, slash, two characters, 14 in all'
 unfoldable pub is_branch : List ℕ → Bool
@@ -56,8 +56,8 @@ code_in (Branch c b x y) = c
 -- the same as what a digit field holds: the number of an address is its code
 abbrev pub code_digits : Address → Digits
 code_digits Malformed = None
-code_digits (Code n) = Number n
-code_digits (Branch c b x y) = Number c
+code_digits (Code n) = Some n
+code_digits (Branch c b x y) = Some c
 
 -- the second number of a long form
 abbrev pub branch_in : Address → ℕ

@@ -5,35 +5,31 @@ ghost use Rattle.digits.specs.Decimal.{digits_of, digits};
 ghost use Rattle.addresses.specs.Addresses.{code_address, branch_address, address_of, address_text, address_length, address_fits};
 
 use crate::Address;
-use digits::{Digits, has_number, number_of};
 use output::internal::put_byte;
 use words::internal::{number_at, put_digits};
 
 // The short form of what five bytes hold.
-fn code_from(code: Digits) -> Address
+fn code_from(code: Option<u64>) -> Address
     ensures { result ≡ code_address code }
 {
-    if has_number(code) {
-        return Address::Code(number_of(code));
+    match code {
+        Some(code) => Address::Code(code),
+        None => Address::Malformed,
     }
-    Address::Malformed
 }
 
 // The long form in 14 bytes, of which the first five were read.
-fn branch_from(m: &[u8], from: usize, code: Digits) -> Address
+fn branch_from(m: &[u8], from: usize, code: Option<u64>) -> Address
     requires { (3 ≤ from) × (from + 14 ≤ length m.now) × (code ≡ digits_of (take 5 (drop from m.now))) }
     ensures { result ≡ branch_address (take 14 (drop from m.now)) }
 {
     let branch = number_at(m, from + 6, from + 11);
-    if has_number(code) & (m[from + 5] == b'/') & has_number(branch) & (m[from + 11] == b'/') {
-        return Address::Branch(
-            number_of(code),
-            number_of(branch),
-            m[from + 12],
-            m[from + 13],
-        );
+    match (code, branch) {
+        (Some(code), Some(branch)) if (m[from + 5] == b'/') & (m[from + 11] == b'/') => {
+            Address::Branch(code, branch, m[from + 12], m[from + 13])
+        }
+        _ => Address::Malformed,
     }
-    Address::Malformed
 }
 
 // The address in w bytes from an index on, which is 3 or more. Both forms start with a code.

@@ -6,9 +6,8 @@ pub mod internal;
 ghost use Rattle.std.specs.Prelude.{◌≡◌};
 ghost use Rattle.addresses.specs.Addresses.{is_address, code_in, code_digits, branch_in, address_fits, address_length, text_start};
 
-use digits::Digits;
-
-// What an address holds: a code, or a code, a branch and two characters; Malformed where a byte is out of place.
+// What an address holds: a code, or a code, a branch and two characters; Malformed where a byte is out of place, which is
+// a case here and no Option around it, since an application is also written from the addresses that were read of another.
 #[derive(Clone, Copy)]
 pub enum Address {
     Malformed,
@@ -39,13 +38,13 @@ pub fn code_of(a: Address) -> u64
 }
 
 // The code of an address, as what a digit field holds.
-pub fn code_digits(a: Address) -> Digits
+pub fn code_digits(a: Address) -> Option<u64>
     ensures { result ≡ code_digits a }
 {
     match a {
-        Address::Malformed => Digits::None,
-        Address::Code(n) => Digits::Number(n),
-        Address::Branch(n, _, _, _) => Digits::Number(n),
+        Address::Malformed => None,
+        Address::Code(n) => Some(n),
+        Address::Branch(n, _, _, _) => Some(n),
     }
 }
 

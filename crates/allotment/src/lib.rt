@@ -3,11 +3,6 @@
 
 pub mod internal;
 
-use marginal::MarginalRate;
-
-// Whether condition 16 refuses; if not, the marginal rate.
+// Condition 16 refuses: the bids in the book add up to more than it allows.
 #[derive(Clone, Copy)]
-pub struct Allotment {
-    pub exceeds: bool,
-    pub marginal: MarginalRate,
-}
+pub struct BidsExceed;

@@ -54,10 +54,8 @@ impl Bids {
     // A bid of one amount at every place, at rates that rise in book order by 0.01 percent.
     pub fn at_rising_rates(amount: u64) -> Bids {
         let mut rates = [0u32; 640];
-        let mut i = 0;
-        while i < 640 {
-            rates[i] = (i as u32 + 1) * 1000;
-            i += 1;
+        for (i, rate) in rates.iter_mut().enumerate() {
+            *rate = (i as u32 + 1) * 1000;
         }
         Bids {
             rates,

@@ -4,7 +4,7 @@ ghost use Rattle.std.specs.Prelude.{◌≡◌, length};
 use crate::book::Bids;
 use allotment::internal::allot;
 use announcement::Side;
-use marginal::MarginalRate;
+use bids::BidColumns;
 use offer::Offer;
 use places::{Amount, Rate};
 use std::io;
@@ -25,13 +25,13 @@ fn print_award(rt: &impl Print, place: usize, cents: u64) -> io::Result<()> {
     print!(rt; ":{cents}")
 }
 
-fn print_marginal_rate(rt: &impl Print, m: MarginalRate) -> io::Result<()> {
+fn print_marginal_rate(rt: &impl Print, m: Option<Rate>) -> io::Result<()> {
     match m {
-        MarginalRate::At(rate) => {
+        Some(rate) => {
             printing::text(rt, b" rate")?;
             printing::number(rt, rate.0 as u64)?;
         }
-        MarginalRate::None => printing::text(rt, b" none")?,
+        None => printing::text(rt, b" none")?,
     }
     printing::end(rt)
 }
@@ -44,10 +44,8 @@ fn print_refusal(rt: &impl Print, exceeds: bool) -> io::Result<()> {
 }
 
 fn print_awards(rt: &impl Print, awards: &[u64]) -> io::Result<()> {
-    let mut i = 0;
-    while i < awards.len() {
-        print_award(rt, i, awards[i])?;
-        i += 1;
+    for (i, &cents) in awards.iter().enumerate() {
+        print_award(rt, i, cents)?;
     }
     Ok(())
 }
@@ -56,18 +54,13 @@ fn print_awards(rt: &impl Print, awards: &[u64]) -> io::Result<()> {
 fn counted(s: Summary, cents: u64) -> Summary {
     Summary {
         sum: s.sum.wrapping_add(cents),
-        count: s.count.wrapping_add((0 < cents) as u64),
+        count: s.count.wrapping_add(u64::from(0 < cents)),
     }
 }
 
 fn summarise(awards: &[u64]) -> Summary {
-    let mut s = Summary { sum: 0, count: 0 };
-    let mut i = 0;
-    while i < awards.len() {
-        s = counted(s, awards[i]);
-        i += 1;
-    }
-    s
+    let none = Summary { sum: 0, count: 0 };
+    awards.iter().fold(none, |s, &cents| counted(s, cents))
 }
 
 // Allots, writes the awards, and prints the name and whether condition 16 refuses.
@@ -79,7 +72,7 @@ fn begin(
     offered: u64,
     b: Bids,
     awards: &mut [u64],
-) -> io::Result<MarginalRate>
+) -> io::Result<Option<Rate>>
     requires { length awards.old ≡ 640 }
 {
     let o = Offer {
@@ -90,10 +83,14 @@ fn begin(
     let rates = b.rates;
     let amounts = b.amounts;
     let limits = b.limits;
-    let a = allot(o, &limits, &rates, &amounts, awards);
+    let bids = BidColumns {
+        rates: &rates,
+        amounts: &amounts,
+    };
+    let a = allot(o, &limits, bids, awards);
     printing::text(rt, name)?;
-    print_refusal(rt, a.exceeds)?;
-    Ok(a.marginal)
+    print_refusal(rt, a.is_err())?;
+    Ok(a.unwrap_or(None))
 }
 
 // A case with each of its awards.

@@ -9,14 +9,14 @@ use lib.Dec.{eqb}
 use lib.ListN.{length, take, drop}
 use lib.Seq.{take_all, take-add}
 use borrow.Author.Tests.{eqb-true}
+use Rattle.std.proofs.Common as told
 use Rattle.laws.proofs.Tests.{and_left, and_right}
 use Rattle.texts.specs.Texts.{same_text, ascii}
 use Rattle.texts.proofs.Texts.{same_is}
 use Rattle.announcement.specs.declared.Side.{Side}
 use Rattle.announcement.specs.declared.Side.TheVariants.{La, Lp}
 use Rattle.announcement.specs.declared.Kind.{Kind}
-use Rattle.announcement.specs.declared.Kind.TheVariants.{Tender, Unknown}
-use Rattle.announcement.specs.Announcement.{side_named, choice_named, tender_named, fixed_parts, tender_type_of, type_text, FourTypes}
+use Rattle.announcement.specs.Announcement.{side_named, choice_named, tender_of, tender_named, fixed_parts, tender_type_of, type_text, FourTypes}
 
 -- the letters of a side, and of a choice
 abbrev side_letters : Side → List ℕ
@@ -37,16 +37,16 @@ named {A} letters p q a s = go (same_text s (letters p)) refl (same_text s (lett
     go false e false f h = absurd (some-ne-none a (sym h))
 
 -- what a kind says, where it is a tender
-abbrev side_in : Kind → Option Side
-side_in (Tender side choice) = some side
-side_in Unknown = none
+abbrev side_in : told.Option Kind → Option Side
+side_in (told.Some k) = some k.side
+side_in told.None = none
 
-abbrev choice_in : Kind → Option Bool
-choice_in (Tender side choice) = some choice
-choice_in Unknown = none
+abbrev choice_in : told.Option Kind → Option Bool
+choice_in (told.Some k) = some k.choice
+choice_in told.None = none
 
 -- a tender has both its parts named
-both : (x : Option Side) (y : Option Bool) (side : Side) (choice : Bool) → tender_named x y ≡ Tender side choice → (x ≡ some side) × (y ≡ some choice)
+both : (x : Option Side) (y : Option Bool) (side : Side) (choice : Bool) → tender_named x y ≡ tender_of side choice → (x ≡ some side) × (y ≡ some choice)
 both none y side choice h = absurd (some-ne-none side (sym (ap side_in h)))
 both (some a) none side choice h = absurd (some-ne-none side (sym (ap side_in h)))
 both (some a) (some b) side choice h = (ap side_in h, ap choice_in h)
@@ -69,7 +69,7 @@ parts_joined Lp true = refl
 parts_joined Lp false = refl
 
 -- each text announces its tender
-announces : (side : Side) (choice : Bool) → tender_type_of (type_text side choice) ≡ Tender side choice
+announces : (side : Side) (choice : Bool) → tender_type_of (type_text side choice) ≡ tender_of side choice
 unfolding tender_type_of same_text
 announces La true = refl
 announces La false = refl
@@ -77,7 +77,7 @@ announces Lp true = refl
 announces Lp false = refl
 
 -- a text whose fixed parts stand and whose named parts name these is theirs
-from_parts : (s : List ℕ) (side : Side) (choice : Bool) → eqb (length s) 18 && fixed_parts s ≡ true → tender_named (side_named (take 2 (drop 6 s))) (choice_named (take 1 (drop 11 s))) ≡ Tender side choice → s ≡ type_text side choice
+from_parts : (s : List ℕ) (side : Side) (choice : Bool) → eqb (length s) 18 && fixed_parts s ≡ true → tender_named (side_named (take 2 (drop 6 s))) (choice_named (take 1 (drop 11 s))) ≡ tender_of side choice → s ≡ type_text side choice
 from_parts s side choice stand h =
     let fixed = and_right (eqb (length s) 18) (fixed_parts s) stand in
     let first = same_text (take 6 s) (ascii "NC/FD/") in
@@ -95,11 +95,11 @@ from_parts s side choice stand h =
     ∙ parts_joined side choice
 
 -- and no other text does
-no_other : (side : Side) (choice : Bool) (s : List ℕ) → tender_type_of s ≡ Tender side choice → s ≡ type_text side choice
+no_other : (side : Side) (choice : Bool) (s : List ℕ) → tender_type_of s ≡ tender_of side choice → s ≡ type_text side choice
 unfolding tender_type_of
 no_other side choice s = go (eqb (length s) 18 && fixed_parts s) refl
   where
-    go : (x : Bool) → eqb (length s) 18 && fixed_parts s ≡ x → cond x (tender_named (side_named (take 2 (drop 6 s))) (choice_named (take 1 (drop 11 s)))) Unknown ≡ Tender side choice → s ≡ type_text side choice
+    go : (x : Bool) → eqb (length s) 18 && fixed_parts s ≡ x → cond x (tender_named (side_named (take 2 (drop 6 s))) (choice_named (take 1 (drop 11 s)))) told.None ≡ tender_of side choice → s ≡ type_text side choice
     go true e h = from_parts s side choice e h
     go false e h = absurd (some-ne-none side (sym (ap side_in h)))
 

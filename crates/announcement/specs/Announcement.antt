@@ -2,7 +2,7 @@
 use Rattle.std.specs.Prelude.{◌≡◌, Bool, true, false, cond, not, ◌&&◌, List, [], ◌∷◌, ℕ, ◌+◌, eqb, length, take, drop, get_or}
 use Rattle.std.proofs.Math.Option.{Option, none, some}
 use Rattle.calendar.specs.Calendar.{before}
-use Rattle.digits.specs.declared.Digits.TheVariants.{None}
+use Rattle.std.specs.Prelude as told
 use Rattle.digits.specs.Decimal.{all_digits, digits_of, number_in}
 use Rattle.layout.specs.Fields.{FieldEntry, readable, content}
 use Rattle.places.specs.Bids.{slash}
@@ -13,7 +13,6 @@ use Rattle.announcement.specs.declared.Field.TheVariants.{MessageType, Sender, R
 use Rattle.announcement.specs.declared.Side.{Side}
 use Rattle.announcement.specs.declared.Side.TheVariants.{La, Lp}
 use Rattle.announcement.specs.declared.Kind.{Kind}
-use Rattle.announcement.specs.declared.Kind.TheVariants.{Tender, Unknown}
 use Rattle.announcement.specs.declared.Characteristics as characteristics
 use Rattle.announcement.specs.declared.References.{References}
 use Rattle.announcement.specs.declared.Announcement.{Announcement}
@@ -80,23 +79,27 @@ side_named s = cond (same_text s (ascii "LA")) (some La) (cond (same_text s (asc
 abbrev pub choice_named : List ℕ → Option Bool
 choice_named s = cond (same_text s (ascii "Y")) (some true) (cond (same_text s (ascii "N")) (some false) none)
 
+-- a tender of a side and a choice
+abbrev pub tender_of : Side → Bool → told.Option Kind
+tender_of side choice = told.Some (record { side = side; choice = choice })
+
 -- a tender has both
-abbrev pub tender_named : Option Side → Option Bool → Kind
-tender_named none choice = Unknown
-tender_named (some side) none = Unknown
-tender_named (some side) (some choice) = Tender side choice
+abbrev pub tender_named : Option Side → Option Bool → told.Option Kind
+tender_named none choice = told.None
+tender_named (some side) none = told.None
+tender_named (some side) (some choice) = tender_of side choice
 
 -- '`NC/FD/` .. `/R/` .. `/VR/MR`' stand in their places
 abbrev pub fixed_parts : List ℕ → Bool
 fixed_parts s = same_text (take 6 s) (ascii "NC/FD/") && same_text (take 3 (drop 8 s)) (ascii "/R/") && same_text (take 6 (drop 12 s)) (ascii "/VR/MR")
 
 -- 'The type is `NC/FD/` then LA or LP, `/R/`, Y or N, `/VR/MR`'
-unfoldable pub tender_type_of : List ℕ → Kind
+unfoldable pub tender_type_of : List ℕ → told.Option Kind
 tender_type_of s =
     cond
     (eqb (length s) 18 && fixed_parts s)
     (tender_named (side_named (take 2 (drop 6 s))) (choice_named (take 1 (drop 11 s))))
-    Unknown
+    told.None
 
 -- the types in full
 abbrev pub type_text : Side → Bool → List ℕ
@@ -109,8 +112,8 @@ type_text Lp false = ascii "NC/FD/LP/R/N/VR/MR"
 abbrev pub FourTypes : Type 0
 FourTypes =
     (side : Side) (choice : Bool)
-    → (tender_type_of (type_text side choice) ≡ Tender side choice)
-    × ((s : List ℕ) → tender_type_of s ≡ Tender side choice → s ≡ type_text side choice)
+    → (tender_type_of (type_text side choice) ≡ tender_of side choice)
+    × ((s : List ℕ) → tender_type_of s ≡ tender_of side choice → s ≡ type_text side choice)
 
 -- 'The characteristics, joined by slashes: execution date (8), most bids (2), amount offered, minimum bid, increment, maximum total,
 -- minimum allocation (15 each), limit rate (8)'
@@ -128,10 +131,9 @@ unfoldable pub numbers_in : ℕ → List ℕ → List ℕ → List ℕ
 numbers_in at [] s = []
 numbers_in at (w ∷ ws) s = number_in (digits_of (take w (drop at s))) ∷ numbers_in (at + w + 1) ws s
 
-abbrev pub characteristics_from : Bool → List ℕ → characteristics.Characteristics
-characteristics_from formed ns =
+abbrev pub characteristics_from : List ℕ → characteristics.Characteristics
+characteristics_from ns =
     record {
-      formed = formed;
       execution = get_or ns 0 0;
       most = get_or ns 1 0;
       offered = record { 0 = get_or ns 2 0 };
@@ -142,8 +144,12 @@ characteristics_from formed ns =
       limit = record { 0 = get_or ns 7 0 };
     }
 
-unfoldable pub characteristics_of : List ℕ → characteristics.Characteristics
-characteristics_of s = cond (joined 0 widths s) (characteristics_from true (numbers_in 0 widths s)) (characteristics_from false [])
+unfoldable pub characteristics_of : List ℕ → told.Option characteristics.Characteristics
+characteristics_of s = cond (joined 0 widths s) (told.Some (characteristics_from (numbers_in 0 widths s))) told.None
+
+-- the numbers, zeros where the field is malformed
+abbrev pub characteristics_in : told.Option characteristics.Characteristics → characteristics.Characteristics
+characteristics_in c = told.unwrap_or c (characteristics_from [])
 
 -- what a 6G0 says
 unfoldable pub references_of : List ℕ → References
@@ -169,20 +175,8 @@ announcement_of m =
     }
 
 -- what is no 6G0 says nothing
-abbrev pub no_announcement : Announcement
-no_announcement =
-    record {
-      references = record { sender = None; recipient = None; cro = None; date = None; time = None };
-      identified = false;
-      kind = Unknown;
-      characteristics = characteristics_from false [];
-      spot = None;
-      forward = None;
-      cutoff = None;
-    }
-
-unfoldable pub reading : List ℕ → Bool × Announcement
-reading m = (readable layout6_g0 m, cond (readable layout6_g0 m) (announcement_of m) no_announcement)
+unfoldable pub reading : List ℕ → told.Option Announcement
+reading m = cond (readable layout6_g0 m) (told.Some (announcement_of m)) told.None
 
 -- the dates stand in their order: the reference date not after the execution date, the spot date not before it, the forward date after
 -- the spot date

@@ -1,52 +1,41 @@
--- The characteristics by the places of their parts, as the code reads them. Only private contracts cite them. Assumes nothing.
-use Rattle.std.specs.Prelude.{Bool, ◌&&◌, List, [], ◌∷◌, ℕ, ◌-◌, eqb, take, drop, get_or}
-use Rattle.digits.specs.declared.Digits.{Digits}
-use Rattle.digits.specs.Decimal.{digits_of, is_number, number_in}
+-- What the code reads of a type and of the characteristics, by their places. Only private contracts cite them. Assumes nothing.
+use Rattle.std.specs.Prelude.{Bool, true, ◌&&◌, List, [], ◌∷◌, ℕ, ◌-◌, eqb, take, drop, get_or}
+use Rattle.std.specs.Prelude as told
+use Rattle.std.proofs.Math.Option.{Option, none, some}
+use Rattle.digits.specs.Decimal.{Digits, digits_of, is_number}
 use Rattle.places.specs.Bids.{slash}
-use Rattle.announcement.specs.declared.Numbers.{Numbers}
+use Rattle.announcement.specs.declared.Side.{Side}
 
--- what a part holds
+-- a side and a choice that were told, if they were
+abbrev pub side_of : told.Option Side → Option Side
+side_of told.None = none
+side_of (told.Some s) = some s
+
+abbrev pub choice_of : told.Option Bool → Option Bool
+choice_of told.None = none
+choice_of (told.Some c) = some c
+
+-- what a part of the characteristics holds
 abbrev pub part : ℕ → ℕ → List ℕ → Digits
 part from to s = digits_of (take (to - from) (drop from s))
 
--- what each part holds
-unfoldable pub numbers_at : List ℕ → Numbers
-numbers_at s =
-    record {
-      execution = part 0 8 s;
-      most = part 9 11 s;
-      offered = part 12 27 s;
-      minimum = part 28 43 s;
-      increment = part 44 59 s;
-      maximum = part 60 75 s;
-      allocation = part 76 91 s;
-      limit = part 92 100 s;
-    }
-
--- the numbers, each 0 where there is none
-abbrev pub values_of : Numbers → List ℕ
-values_of n =
-    number_in n.execution
-    ∷ number_in n.most
-    ∷ number_in n.offered
-    ∷ number_in n.minimum
-    ∷ number_in n.increment
-    ∷ number_in n.maximum
-    ∷ number_in n.allocation
-    ∷ number_in n.limit
+-- what each part holds, in their order
+abbrev pub parts_of : List ℕ → List Digits
+parts_of s =
+    part 0 8 s
+    ∷ part 9 11 s
+    ∷ part 12 27 s
+    ∷ part 28 43 s
+    ∷ part 44 59 s
+    ∷ part 60 75 s
+    ∷ part 76 91 s
+    ∷ part 92 100 s
     ∷ []
 
 -- each part has a number
-abbrev pub all_numbers : Numbers → Bool
-all_numbers n =
-    is_number n.execution
-    && is_number n.most
-    && is_number n.offered
-    && is_number n.minimum
-    && is_number n.increment
-    && is_number n.maximum
-    && is_number n.allocation
-    && is_number n.limit
+abbrev pub all_numbers : List Digits → Bool
+all_numbers [] = true
+all_numbers (d ∷ ds) = is_number d && all_numbers ds
 
 -- slashes stand between the parts
 abbrev pub slashes_stand : List ℕ → Bool

@@ -5,7 +5,6 @@ ghost use Rattle.layout.specs.Fields.{IsOneOf, at_most, readable};
 ghost use Rattle.announcement.specs.Announcement.{entry_of, layout6_g0, position, bytes_of};
 
 use crate::Field;
-use digits::Digits;
 use digits::internal::number;
 use layout::internal::contents;
 
@@ -38,7 +37,7 @@ pub fn bytes_in(m: &[u8], f: Field) -> &[u8]
 }
 
 // What a digit field of a readable 6G0 holds.
-pub fn digits_in(m: &[u8], f: Field) -> Digits
+pub fn digits_in(m: &[u8], f: Field) -> Option<u64>
     requires m_value { readable layout6_g0 m.now ≡ true }
     requires f_value { at_most 19 (entry_of f).lengths ≡ true }
     ensures { result ≡ digits_of (bytes_of f m.now) }

@@ -3,16 +3,13 @@
 
 pub mod internal;
 
-ghost use Rattle.std.specs.Prelude.{◌≡◌, true, false, [], ◌<◌, length};
-ghost use Rattle.std.proofs.Math.Option.{some};
-ghost use Rattle.digits.specs.Decimal.{number_in};
+ghost use Rattle.std.specs.Prelude.{◌≡◌, true, length};
 ghost use Rattle.layout.specs.Fields.{readable};
-ghost use Rattle.announcement.specs.Announcement.{layout6_g0, field_bytes, side_named, choice_named, tender_named, fixed_parts, tender_type_of, characteristics_from, characteristics_of, references_of, announcement_of, no_announcement, reading, dates_ordered};
-ghost use Rattle.announcement.specs.Parts.{numbers_at, values_of, all_numbers, slashes_stand};
+ghost use Rattle.announcement.specs.Announcement.{layout6_g0, field_bytes, side_named, choice_named, tender_named, fixed_parts, tender_type_of, characteristics_of, references_of, announcement_of, reading, dates_ordered};
+ghost use Rattle.announcement.specs.Parts.{side_of, choice_of, slashes_stand};
 
 use crate::internal::{bytes_in, digits_in, position_of};
 use calendar::date_before;
-use digits::{Digits, has_number, number_of};
 use envelope::application::is_identifier;
 use envelope::internal::contents_if;
 use places::{Amount, Rate};
@@ -43,17 +40,16 @@ pub enum Side {
     Lp,
 }
 
-// What field 6G1 announces: the side, and whether it says Y; or none of the types.
+// A type of tender: the side, and whether it says Y.
 #[derive(Clone, Copy)]
-pub enum Kind {
-    Tender(Side, bool),
-    Unknown,
+pub struct Kind {
+    pub side: Side,
+    pub choice: bool,
 }
 
-// Field 6G2: whether it is well formed, and its numbers, which are zeros where it is not.
+// The numbers of field 6G2.
 #[derive(Clone, Copy)]
 pub struct Characteristics {
-    pub formed: bool,
     pub execution: u64,
     pub most: u64,
     pub offered: Amount,
@@ -67,43 +63,24 @@ pub struct Characteristics {
 // The numbers of sender, recipient, CRO, reference date and reference time.
 #[derive(Clone, Copy)]
 pub struct References {
-    pub sender: Digits,
-    pub recipient: Digits,
-    pub cro: Digits,
-    pub date: Digits,
-    pub time: Digits,
+    pub sender: Option<u64>,
+    pub recipient: Option<u64>,
+    pub cro: Option<u64>,
+    pub date: Option<u64>,
+    pub time: Option<u64>,
 }
 
-// What a 6G0 says: the numbers of its digit fields, whether its identifier is one, its kind and
-// its characteristics.
+// What a 6G0 says: the numbers of its digit fields, whether its identifier is one, its kind, if it names one of the
+// types, and its characteristics, if they are well formed.
 #[derive(Clone, Copy)]
 pub struct Announcement {
     pub references: References,
     pub identified: bool,
-    pub kind: Kind,
-    pub characteristics: Characteristics,
-    pub spot: Digits,
-    pub forward: Digits,
-    pub cutoff: Digits,
-}
-
-#[derive(Clone, Copy)]
-pub struct Reading {
-    pub readable: bool,
-    pub announcement: Announcement,
-}
-
-// What the eight parts of field 6G2 hold.
-#[derive(Clone, Copy)]
-struct Numbers {
-    execution: Digits,
-    most: Digits,
-    offered: Digits,
-    minimum: Digits,
-    increment: Digits,
-    maximum: Digits,
-    allocation: Digits,
-    limit: Digits,
+    pub kind: Option<Kind>,
+    pub characteristics: Option<Characteristics>,
+    pub spot: Option<u64>,
+    pub forward: Option<u64>,
+    pub cutoff: Option<u64>,
 }
 
 // Whether m has the fields of a 6G0, in order, with their lengths, and nothing after them. Its length is tested first, so that the compiler knows it in every other test.
@@ -127,14 +104,14 @@ pub fn bytes(m: &[u8], f: Field) -> &[u8]
 }
 
 // The kind of tender that a text announces. Its length is tested first, then its parts.
-pub fn kind_of(s: &[u8]) -> Kind
+pub fn kind_of(s: &[u8]) -> Option<Kind>
     ensures { result ≡ tender_type_of s.now }
 {
     if s.len() != 18 {
-        return Kind::Unknown;
+        return None;
     }
     if !fixed_parts_stand(s) {
-        return Kind::Unknown;
+        return None;
     }
     tender_named(&s[6..8], &s[11..12])
 }
@@ -148,76 +125,39 @@ fn fixed_parts_stand(s: &[u8]) -> bool
 }
 
 // The tender whose side and choice these letters name.
-fn tender_named(side: &[u8], choice: &[u8]) -> Kind
+fn tender_named(side: &[u8], choice: &[u8]) -> Option<Kind>
     ensures { result ≡ tender_named (side_named side.now) (choice_named choice.now) }
 {
-    if same(side, b"LA") {
-        return tender_on(Side::La, choice);
-    }
-    if same(side, b"LP") {
-        return tender_on(Side::Lp, choice);
-    }
-    Kind::Unknown
+    Some(Kind {
+        side: side_named(side)?,
+        choice: choice_named(choice)?,
+    })
 }
 
-// The tender on a side whose choice this letter names.
-fn tender_on(side: Side, choice: &[u8]) -> Kind
-    ensures { result ≡ tender_named (some side) (choice_named choice.now) }
+// The side that two letters name.
+fn side_named(s: &[u8]) -> Option<Side>
+    ensures { side_of result ≡ side_named s.now }
 {
-    if same(choice, b"Y") {
-        return Kind::Tender(side, true);
+    if same(s, b"LA") {
+        return Some(Side::La);
     }
-    if same(choice, b"N") {
-        return Kind::Tender(side, false);
+    if same(s, b"LP") {
+        return Some(Side::Lp);
     }
-    Kind::Unknown
+    None
 }
 
-// What the parts of the characteristics hold. Each is read once, to be tested and to give its number.
-fn numbers_at(s: &[u8]) -> Numbers
-    requires { length s.now ≡ 100 }
-    ensures { result ≡ numbers_at s.now }
+// What the letter of the choice says.
+fn choice_named(s: &[u8]) -> Option<bool>
+    ensures { choice_of result ≡ choice_named s.now }
 {
-    let execution = number_at(s, 0, 8);
-    let most = number_at(s, 9, 11);
-    let offered = long_number_at(s, 12, 27);
-    let minimum = long_number_at(s, 28, 43);
-    let increment = long_number_at(s, 44, 59);
-    let maximum = long_number_at(s, 60, 75);
-    let allocation = long_number_at(s, 76, 91);
-    let limit = number_at(s, 92, 100);
-    Numbers {
-        execution,
-        most,
-        offered,
-        minimum,
-        increment,
-        maximum,
-        allocation,
-        limit,
+    if same(s, b"Y") {
+        return Some(true);
     }
-}
-
-// Whether each part has a number.
-fn all_numbers(n: Numbers) -> bool
-    ensures { result ≡ all_numbers n }
-{
-    let execution = n.execution;
-    let most = n.most;
-    let offered = n.offered;
-    let minimum = n.minimum;
-    let increment = n.increment;
-    let maximum = n.maximum;
-    let allocation = n.allocation;
-    let limit = n.limit;
-    has_number(execution)
-        & has_number(most)
-        & has_number(offered)
-        & has_number(minimum)
-        & has_number(increment)
-        & has_number(maximum)
-        & has_number(allocation)
-        & has_number(limit)
+    if same(s, b"N") {
+        return Some(false);
+    }
+    None
 }
 
 // Whether slashes stand between the parts.
@@ -234,60 +174,32 @@ fn slashes_stand(s: &[u8]) -> bool
         & (s[91] == b'/')
 }
 
-// Field 6G2: its numbers, or none where it is malformed.
-fn characteristics_of(s: &[u8]) -> Characteristics
+// Field 6G2: its numbers, or none where it is malformed. Each part is read once, to be tested and to give its number.
+fn characteristics_of(s: &[u8]) -> Option<Characteristics>
     requires { length s.now ≡ 100 }
     ensures { result ≡ characteristics_of s.now }
 {
-    let n = numbers_at(s);
-    if all_numbers(n) & slashes_stand(s) {
-        formed_characteristics(n)
-    } else {
-        no_characteristics()
+    if !slashes_stand(s) {
+        return None;
     }
-}
-
-// Characteristics with the numbers of their parts.
-fn formed_characteristics(n: Numbers) -> Characteristics
-    requires { number_in n.limit < 100000000 }
-    ensures { result ≡ characteristics_from true (values_of n) }
-{
-    let execution = n.execution;
-    let most = n.most;
-    let offered = n.offered;
-    let minimum = n.minimum;
-    let increment = n.increment;
-    let maximum = n.maximum;
-    let allocation = n.allocation;
-    let limit = n.limit;
-    Characteristics {
-        formed: true,
-        execution: number_of(execution),
-        most: number_of(most),
-        offered: Amount(number_of(offered)),
-        minimum: Amount(number_of(minimum)),
-        increment: Amount(number_of(increment)),
-        maximum: Amount(number_of(maximum)),
-        allocation: Amount(number_of(allocation)),
-        limit: Rate(number_of(limit) as u32),
-    }
-}
-
-// Characteristics without numbers.
-fn no_characteristics() -> Characteristics
-    ensures { result ≡ characteristics_from false [] }
-{
-    Characteristics {
-        formed: false,
-        execution: 0,
-        most: 0,
-        offered: Amount(0),
-        minimum: Amount(0),
-        increment: Amount(0),
-        maximum: Amount(0),
-        allocation: Amount(0),
-        limit: Rate(0),
-    }
+    let execution = number_at(s, 0, 8)?;
+    let most = number_at(s, 9, 11)?;
+    let offered = long_number_at(s, 12, 27)?;
+    let minimum = long_number_at(s, 28, 43)?;
+    let increment = long_number_at(s, 44, 59)?;
+    let maximum = long_number_at(s, 60, 75)?;
+    let allocation = long_number_at(s, 76, 91)?;
+    let limit = number_at(s, 92, 100)?;
+    Some(Characteristics {
+        execution,
+        most,
+        offered: Amount(offered),
+        minimum: Amount(minimum),
+        increment: Amount(increment),
+        maximum: Amount(maximum),
+        allocation: Amount(allocation),
+        limit: Rate(limit as u32),
+    })
 }
 
 // What a readable 6G0 says of sender, recipient, CRO, reference date and reference time.
@@ -332,41 +244,14 @@ fn announcement_of(m: &[u8]) -> Announcement
     }
 }
 
-// Reads a 6G0; what is none says nothing.
-pub fn read(m: &[u8]) -> Reading
-    ensures { (result.readable, result.announcement) ≡ reading m.now }
+// What a 6G0 says; another message says nothing.
+pub fn read(m: &[u8]) -> Option<Announcement>
+    ensures { result ≡ reading m.now }
 {
     if is_6g0(m) {
-        Reading {
-            readable: true,
-            announcement: announcement_of(m),
-        }
+        Some(announcement_of(m))
     } else {
-        Reading {
-            readable: false,
-            announcement: no_announcement(),
-        }
-    }
-}
-
-// An announcement that says nothing.
-fn no_announcement() -> Announcement
-    ensures { result ≡ no_announcement }
-{
-    Announcement {
-        references: References {
-            sender: Digits::None,
-            recipient: Digits::None,
-            cro: Digits::None,
-            date: Digits::None,
-            time: Digits::None,
-        },
-        identified: false,
-        kind: Kind::Unknown,
-        characteristics: no_characteristics(),
-        spot: Digits::None,
-        forward: Digits::None,
-        cutoff: Digits::None,
+        None
     }
 }
 

@@ -5,6 +5,7 @@
 use announcement::{
     Announcement, Characteristics, Field, Kind, References, Side, bytes, dates_ordered, read,
 };
+use places::{Amount, Rate};
 use std::io;
 
 // Document 01's tender, with another byte at an index.
@@ -39,19 +40,33 @@ fn side(rt: &impl Print, s: Side) -> io::Result<()> {
     }
 }
 
-fn kind(rt: &impl Print, k: Kind) -> io::Result<()> {
+fn kind(rt: &impl Print, k: Option<Kind>) -> io::Result<()> {
     match k {
-        Kind::Tender(s, yes) => {
-            side(rt, s)?;
-            printing::yes(rt, yes)
+        Some(k) => {
+            side(rt, k.side)?;
+            printing::yes(rt, k.choice)
         }
-        Kind::Unknown => printing::text(rt, b" none"),
+        None => printing::text(rt, b" none"),
     }
 }
 
-fn characteristics(rt: &impl Print, c: Characteristics) -> io::Result<()> {
-    let limit = c.limit;
-    printing::yes(rt, c.formed)?;
+// Zeros, which are printed for characteristics that are malformed.
+fn zeros() -> Characteristics {
+    Characteristics {
+        execution: 0,
+        most: 0,
+        offered: Amount(0),
+        minimum: Amount(0),
+        increment: Amount(0),
+        maximum: Amount(0),
+        allocation: Amount(0),
+        limit: Rate(0),
+    }
+}
+
+fn characteristics(rt: &impl Print, told: Option<Characteristics>) -> io::Result<()> {
+    printing::yes(rt, told.is_some())?;
+    let c = told.unwrap_or(zeros());
     printing::number(rt, c.execution)?;
     printing::number(rt, c.most)?;
     printing::number(rt, c.offered.0)?;
@@ -59,7 +74,7 @@ fn characteristics(rt: &impl Print, c: Characteristics) -> io::Result<()> {
     printing::number(rt, c.increment.0)?;
     printing::number(rt, c.maximum.0)?;
     printing::number(rt, c.allocation.0)?;
-    printing::number(rt, limit.0 as u64)
+    printing::number(rt, u64::from(c.limit.0))
 }
 
 fn announcement(rt: &impl Print, a: Announcement) -> io::Result<()> {
@@ -78,14 +93,32 @@ fn announcement(rt: &impl Print, a: Announcement) -> io::Result<()> {
     printing::digits(rt, cutoff)
 }
 
+// What is printed of a message that is no 6G0.
+fn nothing() -> Announcement {
+    Announcement {
+        references: References {
+            sender: None,
+            recipient: None,
+            cro: None,
+            date: None,
+            time: None,
+        },
+        identified: false,
+        kind: None,
+        characteristics: None,
+        spot: None,
+        forward: None,
+        cutoff: None,
+    }
+}
+
 // What the message says with another byte at an index.
 fn case(rt: &impl Print, name: &[u8], at: usize, b: u8) -> io::Result<()> {
     let m = message(at, b);
-    let r = read(&m);
-    let a = r.announcement;
+    let told = read(&m);
     printing::text(rt, name)?;
-    printing::yes(rt, r.readable)?;
-    announcement(rt, a)?;
+    printing::yes(rt, told.is_some())?;
+    announcement(rt, told.unwrap_or(nothing()))?;
     printing::end(rt)
 }
 
@@ -124,7 +157,7 @@ fn no_dates(rt: &impl Print) -> io::Result<()> {
 fn length(rt: &impl Print, m: &[u8]) -> io::Result<()> {
     printing::text(rt, b"length")?;
     printing::number(rt, m.len() as u64)?;
-    printing::yes(rt, read(m).readable)?;
+    printing::yes(rt, read(m).is_some())?;
     printing::text(rt, bytes(m, Field::TenderType))?;
     printing::end(rt)
 }

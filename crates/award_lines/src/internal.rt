@@ -60,13 +60,11 @@ pub fn put_awards(space: &mut [u8], codes: &[u64], rates: &[u64], awards: &[u64]
     ensures { WritesAwards codes.now (map low32 rates.now) awards.now space.old space.new result }
 {
     let mut at = 0;
-    let mut i = 0;
-    while i < awards.len() {
+    for (i, &cents) in awards.iter().enumerate() {
         let code = codes[i / 10];
         let rate = Rate(narrow(rates[i]));
-        let award = Amount(awards[i]);
+        let award = Amount(cents);
         at = put_if_any(space, at, code, (i % 10 + 1) as u64, rate, award);
-        i += 1;
     }
     at
 }

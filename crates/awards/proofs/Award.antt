@@ -9,12 +9,10 @@ use lib.Dec.{leb, ltb, eqb}
 use lib.ListN.{length}
 use borrow.Author.Tests.{ltb-true, ltb-false, leb-false, lt-ltb, le-ltb, eq-eqb, ne_eqb}
 use Rattle.announcement.specs.declared.Side.{Side}
-use Rattle.rules.specs.Allotment.{Bid, Offer, better_rate, is_in, is_better, is_equal, keep, total, total_better, total_equal, share, shares, cents_left, cent, award}
+use Rattle.rules.specs.Allotment.{Bid, Offer, better_rate, is_in, is_equal, keep, total_better, total_equal, share, shares, cents_left, cent, award}
 use Rattle.rules.proofs.Division.{share_is}
-use Rattle.rules.proofs.Kept.{total_split}
-use Rattle.rules.proofs.Rates.{not_itself, same-rate, not_worse, split_rate}
+use Rattle.rules.proofs.Rates.{not_itself, same-rate}
 use Rattle.rules.proofs.Sum.{equal_in, equal-rate, award_out}
-use Rattle.offer.proofs.Sums.{keep_le}
 use Rattle.awards.specs.LastRate.{shared_out, served, served_all, shared_at, cents_at, served_in, cents_in, LastRate}
 
 -- a better or worse rate is another one
@@ -59,10 +57,6 @@ served_le o r b e x = go (is_in o x) (better_rate o.side x.rate r) (better_rate 
 
 module _ (o : Offer) (bs : List Bid) (r : ℕ) where
   -- the totals at better rates and at this one are within the whole
-  pub totals_le : total_better o bs r + total_equal o bs r ≤ total bs
-  unfolding total_better total_equal
-  totals_le = omega (arith, total_split (not_worse o r) (is_better o r) (is_equal o r) (split_rate o r) bs, keep_le (not_worse o r) bs)
-
   abbrev better : ℕ
   better = total_better o bs r
 

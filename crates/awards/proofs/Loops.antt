@@ -12,11 +12,10 @@ use lib.Seq.{take-suc, ext_get_or}
 use borrow.Author.Tests.{ltb-false}
 use Rattle.laws.proofs.Arrays.{fill_more, fill_all}
 use Rattle.rules.specs.Allotment.{Bid, no_bid, filled, Offer, is_in, is_equal, keep}
-use Rattle.rules.specs.Allotment.{total, total_better, total_equal, sum, award, awards_from, awards}
+use Rattle.rules.specs.Allotment.{total, total_better, total_equal, award, awards_from, awards}
 use Rattle.rules.proofs.Links.{length-awards}
 use Rattle.rules.proofs.Kept.{total_cons, length_last}
-use Rattle.bids.specs.Columns.{bids_of}
-use Rattle.bids.proofs.SideBySide.{bid_in, length_of_lem, bid_of_lem, member_at, drop-bids, total_of}
+use Rattle.bids.proofs.SideBySide.{member_at, drop-at}
 use Rattle.offer.proofs.Sums.{keep_le}
 use Rattle.awards.specs.LastRate.{served, served_all, shared_at, served_in, cents_in, LastRate, ServesAll}
 use Rattle.awards.proofs.Award.{none_left, served_le, bid_served, bid-award}
@@ -98,12 +97,12 @@ module _ (o : Offer) (bs : List Bid) (r : ℕ) (last : LastRate o bs r) where
             no_cent (is_equal o r b),
           )
 
--- a number is within the sum
-within-sum : (ns : List ℕ) (i : ℕ) → get_or ns i 0 ≤ sum ns
-unfolding sum
-within-sum [] i = omega arith
-within-sum (n ∷ ns) zero = omega arith
-within-sum (n ∷ ns) (suc i) = omega (arith, within-sum ns i)
+-- an amount is within the total
+amount-within : (bs : List Bid) (i : ℕ) → (get_or bs i no_bid).amount ≤ total bs
+unfolding total
+amount-within [] i = omega arith
+amount-within (b ∷ bs) zero = omega arith
+amount-within (b ∷ bs) (suc i) = omega (arith, amount-within bs i)
 
 shared-total : (o : Offer) (r b e : ℕ) (xs : List Bid) → shared_at o r b e xs ≤ total (keep (is_equal o r) xs)
 unfolding shared_at total keep
@@ -130,87 +129,83 @@ ServedTo o r b e bs old cur shared i = FilledTo (served_all o r b e bs) old cur 
 abbrev pub CentsTo : Offer → ℕ → ℕ → List Bid → List ℕ → List ℕ → ℕ → ℕ → Type 0
 CentsTo o r cents bs old cur left i = FilledTo (awards o bs) old cur i × (left ≡ cents - length (keep (is_equal o r) (take i bs)))
 
-module _ (rates amounts : List ℕ) (lengths : length rates ≡ length amounts) (o : Offer) (r : ℕ) where
-  abbrev bs : List Bid
-  bs = bids_of rates amounts
-
-  -- an amount is within the whole
-  amount_le : (i : ℕ) → get_or amounts i 0 ≤ total bs
-  amount_le i = omega (arith, within-sum amounts i, total_of rates amounts lengths)
-
+module _ (bs : List Bid) (o : Offer) (r : ℕ) where
   -- the loop that serves all bids
-  module _ (b e : ℕ) (old : List ℕ) (same : length old ≡ length amounts) where
+  module _ (b e : ℕ) (old : List ℕ) (same : length old ≡ length bs) where
+    long_served : length (served_all o r b e bs) ≡ length bs
+    long_served = length-served o r b e bs
+
     module _ (cur : List ℕ) (shared i : ℕ) (s : ServedTo o r b e bs old cur shared i) where
       -- one more bid, served v, of which w is added to what those at the last rate are served
-      pub serving_more : (v w : ℕ) → i < length amounts → v ≡ served o r b e (bid_in rates amounts i) → w ≡ cond (is_equal o r (bid_in rates amounts i)) v 0
+      pub serving_more : (x : Bid) (v w : ℕ) → i < length bs → x ≡ get_or bs i no_bid → v ≡ served o r b e x → w ≡ cond (is_equal o r x) v 0
           → ServedTo o r b e bs old (set cur i v) (shared + w) (i + 1)
       unfolding shared_at
-      serving_more v w h p q =
-          let long = length-served o r b e bs ∙ length_of_lem rates amounts lengths in
-          let here = served_is o r b e bs i ∙ ap (served o r b e) (bid_of_lem rates amounts i lengths) in
-          let next = ap (shared_at o r b e) (drop-bids rates amounts i lengths h) in
-          let added = q ∙ ap (λ (n : ℕ). cond (is_equal o r (bid_in rates amounts i)) n 0) p in
-          (filled_more (served_all o r b e bs) old cur i (omega arith) s.0 (omega arith) v (p ∙ sym here), omega (arith, s.1))
+      serving_more x v w h is p q =
+          let here : v ≡ served o r b e (get_or bs i no_bid) = p ∙ ap (served o r b e) is in
+          let next = ap (shared_at o r b e) (drop-at bs i h) in
+          let added = q ∙ ap (λ (y : Bid). cond (is_equal o r y) v 0) is ∙ ap (λ (n : ℕ). cond (is_equal o r (get_or bs i no_bid)) n 0) here in
+          (filled_more (served_all o r b e bs) old cur i (same ∙ sym long_served) s.0 (omega (arith, long_served)) v (here ∙ sym (served_is o r b e bs i)), omega (arith, s.1))
 
       -- the sum is within the whole
       pub serving_le : shared ≤ total bs
       serving_le = omega (arith, s.1, shared-within o r b e bs)
 
-      pub serving_all : length amounts ≤ i → ServesAll o r b e bs cur shared
+      pub serving_all : length bs ≤ i → ServesAll o r b e bs cur shared
       serving_all h =
-          let long = length-served o r b e bs ∙ length_of_lem rates amounts lengths in
           record {
-            awards_are = filled-all (served_all o r b e bs) old cur i (omega arith) s.0 (omega arith);
-            shared_is = omega (arith, s.1, shared_end o r b e i bs (omega (arith, length_of_lem rates amounts lengths)));
+            awards_are = filled-all (served_all o r b e bs) old cur i (same ∙ sym long_served) s.0 (omega (arith, long_served));
+            shared_is = omega (arith, s.1, shared_end o r b e i bs h);
           }
 
   -- one bid more, where they are counted
-  length_more : (p : Bid → Bool) (i : ℕ) → i < length amounts
-      → length (keep p (take (i + 1) bs)) ≡ length (keep p (take i bs)) + cond (p (bid_in rates amounts i)) 1 0
+  length_more : (p : Bid → Bool) (i : ℕ) → i < length bs
+      → length (keep p (take (i + 1) bs)) ≡ length (keep p (take i bs)) + cond (p (get_or bs i no_bid)) 1 0
   length_more p i h =
       ap (λ (n : ℕ). length (keep p (take n bs))) (add-one i)
-      ∙ ap (λ (l : List Bid). length (keep p l)) (take-suc bs i no_bid (omega (arith, length_of_lem rates amounts lengths)))
+      ∙ ap (λ (l : List Bid). length (keep p l)) (take-suc bs i no_bid h)
       ∙ length_last p (take i bs) (get_or bs i no_bid)
-      ∙ ap (λ (b : Bid). length (keep p (take i bs)) + cond (p b) 1 0) (bid_of_lem rates amounts i lengths)
 
   -- the loop that adds the cents to what all are served
   module _ (is_last : LastRate o bs r) (cents : ℕ) (all : cents ≡ cents_in o bs r) (old : List ℕ) (was : old ≡ served_in o bs r) where
-    pub long_old : length old ≡ length amounts
-    long_old = ap length was ∙ length-served o r (total_better o bs r) (total_equal o bs r) bs ∙ length_of_lem rates amounts lengths
+    pub long_old : length old ≡ length bs
+    long_old = ap length was ∙ length-served o r (total_better o bs r) (total_equal o bs r) bs
 
-    long_awards : length (awards o bs) ≡ length amounts
-    long_awards = length-awards o bs ∙ length_of_lem rates amounts lengths
+    long_awards : length (awards o bs) ≡ length bs
+    long_awards = length-awards o bs
 
-    module _ (cur : List ℕ) (left i : ℕ) (s : CentsTo o r cents bs old cur left i) (h : i < length amounts) where
+    module _ (cur : List ℕ) (left i : ℕ) (s : CentsTo o r cents bs old cur left i) (h : i < length bs) where
       -- the entry at i is still what its bid was served
-      still_served : get_or cur i 0 ≡ bid_served o bs r (bid_in rates amounts i)
+      still_served : get_or cur i 0 ≡ bid_served o bs r (get_or bs i no_bid)
       still_served =
           filled_next (awards o bs) old cur i (long_old ∙ sym long_awards) s.0 (omega (arith, long_awards))
           ∙ ap (λ (xs : List ℕ). get_or xs i 0) was
           ∙ served_is o r (total_better o bs r) (total_equal o bs r) bs i
-          ∙ ap (bid_served o bs r) (bid_of_lem rates amounts i lengths)
 
       -- a cent more is within the whole and one
       pub served-within : get_or cur i 0 ≤ total bs
-      served-within = omega (arith, still_served, served_le o r (total_better o bs r) (total_equal o bs r) (bid_in rates amounts i), amount_le i)
+      served-within = omega (arith, still_served, served_le o r (total_better o bs r) (total_equal o bs r) (get_or bs i no_bid), amount-within bs i)
 
       -- one more bid, which gets c
-      module _ (c : ℕ) (e : c ≡ cond (is_equal o r (bid_in rates amounts i) && ltb 0 left) 1 0) where
+      module _ (x : Bid) (is : x ≡ get_or bs i no_bid) (c : ℕ) (told : c ≡ cond (is_equal o r x && ltb 0 left) 1 0) where
+        abbrev b : Bid
+        b = get_or bs i no_bid
+
+        e : c ≡ cond (is_equal o r b && ltb 0 left) 1 0
+        e = told ∙ ap (λ (y : Bid). cond (is_equal o r y && ltb 0 left) 1 0) is
+
         -- what the bid was served and its cent make its award
         award-cent : get_or cur i 0 + c ≡ get_or (awards o bs) i 0
         award-cent =
-            let b = bid_in rates amounts i in
             let before = length (keep (is_equal o r) (take i bs)) in
             ap (λ (n : ℕ). n + c) still_served
             ∙ sym
-            (award_with o bs r is_last i (omega (arith, length_of_lem rates amounts lengths))
-            ∙ ap (λ (x : Bid). bid_served o bs r x + cond (is_equal o r x && ltb 0 (cents_in o bs r - before)) 1 0) (bid_of_lem rates amounts i lengths)
+            (award_with o bs r is_last i h
             ∙ ap (λ (k : ℕ). bid_served o bs r b + cond (is_equal o r b && ltb 0 k) 1 0) (ap (λ (k : ℕ). k - before) (sym all) ∙ sym s.1)
             ∙ ap (λ (k : ℕ). bid_served o bs r b + k) (sym e))
 
         -- the cents left after it
         cents-after : left - c ≡ cents - length (keep (is_equal o r) (take (i + 1) bs))
-        cents-after = go (is_equal o r (bid_in rates amounts i)) (ltb 0 left) refl e (length_more (is_equal o r) i h)
+        cents-after = go (is_equal o r b) (ltb 0 left) refl e (length_more (is_equal o r) i h)
           where
             go : (u t : Bool) → ltb 0 left ≡ t → c ≡ cond (u && t) 1 0
                 → length (keep (is_equal o r) (take (i + 1) bs)) ≡ length (keep (is_equal o r) (take i bs)) + cond u 1 0
@@ -222,5 +217,5 @@ module _ (rates amounts : List ℕ) (lengths : length rates ≡ length amounts) 
         pub cents_more : CentsTo o r cents bs old (set cur i (get_or cur i 0 + c)) (left - c) (i + 1)
         cents_more = (filled_more (awards o bs) old cur i (long_old ∙ sym long_awards) s.0 (omega (arith, long_awards)) (get_or cur i 0 + c) award-cent, cents-after)
 
-    pub cents-all : (cur : List ℕ) (left i : ℕ) → CentsTo o r cents bs old cur left i → length amounts ≤ i → cur ≡ awards o bs
+    pub cents-all : (cur : List ℕ) (left i : ℕ) → CentsTo o r cents bs old cur left i → length bs ≤ i → cur ≡ awards o bs
     cents-all cur left i s h = filled-all (awards o bs) old cur i (long_old ∙ sym long_awards) s.0 (omega (arith, long_awards))

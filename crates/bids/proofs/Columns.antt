@@ -1,5 +1,5 @@
 -- Bids in columns: windows of them, and one bid of a window. Assumes nothing.
-use mathlib.Core.Path.{◌≡◌, refl, sym, ap, ◌∙◌}
+use mathlib.Core.Path.{◌≡◌, refl, sym, ap, ap₂, ◌∙◌}
 use mathlib.Core.List.{List, [], ◌∷◌, ◌++◌, map}
 use Prim.Native.Nat.{ℕ, zero, suc, ◌+◌, ◌<◌}
 use native.Mathlib.Nat.{zero-add, add-zero, suc-add, add-suc}
@@ -11,7 +11,7 @@ use Rattle.places.specs.declared.Place.{Place}
 use Rattle.places.specs.Bids.{places_in}
 use Rattle.rules.specs.Allotment.{Bid, no_bid}
 use Rattle.rules.specs.Receiving.{bid_of}
-use Rattle.bids.specs.Columns.{bid_at, bids_from}
+use Rattle.bids.specs.Columns.{no_rate, no_amount, bid_at, bids_from}
 
 pub bids_add : (rates : List Rate) (amounts : List Amount) (i d e : ℕ)
     → bids_from rates amounts i (d + e) ≡ bids_from rates amounts i d ++ bids_from rates amounts (i + d) e
@@ -37,6 +37,11 @@ bid_in_lem rates amounts i (suc d) (suc k) h = bid_in_lem rates amounts (suc i) 
 -- the bid at an index of the first d
 pub bid_is : (rates : List Rate) (amounts : List Amount) (d k : ℕ) → k < d → get_or (bids_from rates amounts 0 d) k no_bid ≡ bid_at rates amounts k
 bid_is rates amounts d k h = bid_in_lem rates amounts 0 d k h ∙ rw zero-add
+
+-- the bid of a rate and an amount that stand at one index
+pub bid_passed : (rates : List Rate) (amounts : List Amount) (k : ℕ) (r : Rate) (a : Amount) → k < 10 → r ≡ get_or rates k no_rate → a ≡ get_or amounts k no_amount
+    → get_or (bids_from rates amounts 0 10) k no_bid ≡ record { rate = r.0; amount = a.0 }
+bid_passed rates amounts k r a h p q = bid_is rates amounts 10 k h ∙ sym (ap₂ {C = Bid} (λ (x : Rate) (y : Amount). record { rate = x.0; amount = y.0 }) p q)
 
 pub bids_shifted : (r : Rate) (rs : List Rate) (x : Amount) (xs : List Amount) (i d : ℕ) → bids_from (r ∷ rs) (x ∷ xs) (suc i) d ≡ bids_from rs xs i d
 unfolding bids_from

@@ -7,6 +7,7 @@ use native.Mathlib.Numerals.{add-one}
 use native.Mathlib.Omega.{arith}
 use borrow.Author.Tests.{ltb-true, ltb-false, lt-ltb, le-ltb}
 use lib.Dec.{ltb}
+use mir.Val.{bool_byte}
 use lib.ListN.{length, drop, get_or, drop_of_length-le}
 use lib.Seq.{drop-cons}
 use Rattle.rules.specs.Allotment.{Bid, no_bid, filled, keep, total}
@@ -33,6 +34,14 @@ gap_end found true bs k h = rw (drop_of_length-le bs h) (or-false found)
 gap_end found false bs k h = rw (drop_of_length-le bs h) (or-false found)
 
 -- the loop over a count
+pub flag_is : (b : Bool) → bool_byte b ≡ cond b 1 0
+flag_is true = refl
+flag_is false = refl
+
+pub flag_at_most : (b : Bool) (n : ℕ) → n ≡ bool_byte b → n ≤ 1
+flag_at_most true n e = omega arith
+flag_at_most false n e = omega arith
+
 pub one_at_most : (b : Bool) → cond b 1 0 ≤ 1
 one_at_most true = omega arith
 one_at_most false = omega arith

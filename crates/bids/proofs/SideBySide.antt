@@ -43,6 +43,9 @@ drop-bids rates amounts i e h =
     ∙ ap (λ (b : Bid). b ∷ drop (suc i) bs) (bid_of_lem rates amounts i e)
     ∙ ap (λ (n : ℕ). bid_in rates amounts i ∷ drop n bs) (sym (add-one i))
 
+pub drop-at : (bs : List Bid) (i : ℕ) → i < length bs → drop i bs ≡ get_or bs i no_bid ∷ drop (i + 1) bs
+drop-at bs i h = drop-cons bs i no_bid h ∙ ap (λ (n : ℕ). get_or bs i no_bid ∷ drop n bs) (sym (add-one i))
+
 -- parts of both are a part of the bids
 pub take_of : (n : ℕ) (rates amounts : List ℕ) → bids_of (take n rates) (take n amounts) ≡ take n (bids_of rates amounts)
 unfolding bids_of

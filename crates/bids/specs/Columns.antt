@@ -1,12 +1,11 @@
 -- Rates and amounts in columns, place by place, as document 01's bids. Assumes nothing.
-use Rattle.std.specs.Prelude.{Bool, List, [], ◌∷◌, ℕ, zero, suc, get_or}
+use Rattle.std.specs.Prelude.{◌≡◌, Bool, List, [], ◌∷◌, ℕ, zero, suc, get_or}
 use Rattle.places.specs.declared.Rate.{Rate}
 use Rattle.places.specs.declared.Amount.{Amount}
 use Rattle.rules.specs.Allotment as rules
-use Rattle.rules.specs.Receiving.{fine_rate, small_bid, uneven_bid}
+use Rattle.rules.specs.Opening.{any}
 use Rattle.bids.specs.declared.Bid as declared
-use Rattle.bids.specs.declared.Fault.{Fault}
-use Rattle.bids.specs.declared.Fault.TheVariants.{Fine, Small, Uneven}
+use Rattle.bids.specs.declared.side_by_side.BidColumns.{BidColumns}
 
 abbrev pub no_rate : Rate
 no_rate = record { 0 = 0 }
@@ -35,8 +34,10 @@ bids_of [] amounts = []
 bids_of (r ∷ rates) [] = []
 bids_of (r ∷ rates) (a ∷ amounts) = record { rate = r; amount = a } ∷ bids_of rates amounts
 
--- 6G6-904, 905 and 906 of one bid, by the minimum and the increment
-abbrev pub faulty : Fault → ℕ → ℕ → rules.Bid → Bool
-faulty Fine minimum increment = fine_rate
-faulty Small minimum increment = small_bid minimum
-faulty Uneven minimum increment = uneven_bid minimum increment
+-- the bids that columns stand for
+abbrev pub bids_in : BidColumns → List rules.Bid
+bids_in c = bids_of c.rates.now c.amounts.now
+
+-- found: whether some of the bids has a fault, where what a test may answer of a bid is whether it has the fault
+abbrev pub Asked : (declared.Bid → Bool → Type 0) → List rules.Bid → Bool → Type 0
+Asked Answers bs found = (has_fault : rules.Bid → Bool) → ((b : declared.Bid) (told : Bool) → Answers b told → told ≡ has_fault (viewed b)) → found ≡ any has_fault bs

@@ -1,19 +1,76 @@
 // The checks of an application's ten bids.
 #![tactic(auto)]
 
-ghost use Rattle.std.specs.Prelude.{◌≡◌, cond, ◌-◌, ◌%◌, length};
-ghost use Rattle.rules.specs.Allotment.{filled, keep};
+pub mod side_by_side;
+
+ghost use Rattle.std.specs.Prelude.{◌≡◌, ◌-◌, ◌%◌, ◌<◌, ◌≤◌, length, get_or, take, drop};
+ghost use Rattle.rules.specs.Allotment.{filled, keep, no_bid};
 ghost use Rattle.rules.specs.Opening.{any};
 ghost use Rattle.rules.specs.Receiving.{gap, fine_rate, small_bid, uneven_bid, over_maximum};
-ghost use Rattle.bids.specs.Columns.{viewed, faulty, bids_from};
+ghost use Rattle.bids.specs.Columns.{viewed, Asked, bids_from, bids_of, bids_in};
 
 use places::{Amount, Rate};
+pub use side_by_side::BidColumns;
 
 // A rate and an amount.
 #[derive(Clone, Copy)]
 pub struct Bid {
     pub rate: Rate,
     pub amount: Amount,
+}
+
+impl<'a> BidColumns<'a> {
+    // How many bids there are.
+    pub fn len(self) -> usize
+        ensures { result ≡ length (bids_in self.entry) }
+    {
+        self.amounts.len()
+    }
+
+    // The bid at an index.
+    pub fn bid(self, i: usize) -> Bid
+        requires { i < length (bids_in self) }
+        ensures { viewed result ≡ get_or (bids_in self.entry) i no_bid }
+    {
+        bid_at(self.rates, self.amounts, i)
+    }
+
+    // The bids from one index up to another.
+    pub fn part(self, from: usize, to: usize) -> BidColumns<'a>
+        requires from_bound { from ≤ to }
+        requires to_bound { to ≤ length (bids_in self) }
+        ensures { bids_in result ≡ take (to - from) (drop from (bids_in self.entry)) }
+    {
+        part_of(self.rates, self.amounts, from, to)
+    }
+}
+
+// The two below read slices that are parameters: that an index times the size of an element fits is known of those, and not of fields.
+
+// The bid of a rate and an amount at one index.
+fn bid_at(rates: &[u32], amounts: &[u64], i: usize) -> Bid
+    requires rates_in_bounds { i < length rates.now }
+    requires amounts_in_bounds { i < length amounts.now }
+    ensures rate { result.rate.0 ≡ get_or rates.now i 0 }
+    ensures amount { result.amount.0 ≡ get_or amounts.now i 0 }
+{
+    Bid {
+        rate: Rate(rates[i]),
+        amount: Amount(amounts[i]),
+    }
+}
+
+// The rates and amounts from one index up to another.
+fn part_of<'a>(rates: &'a [u32], amounts: &'a [u64], from: usize, to: usize) -> BidColumns<'a>
+    requires paired { length rates.now ≡ length amounts.now }
+    requires from_bound { from ≤ to }
+    requires to_bound { to ≤ length amounts.now }
+    ensures { bids_in result ≡ take (to - from) (drop from (bids_of rates.now amounts.now)) }
+{
+    BidColumns {
+        rates: &rates[from..to],
+        amounts: &amounts[from..to],
+    }
 }
 
 // Whether a place is filled.
@@ -65,85 +122,33 @@ pub fn has_gap(rates: [Rate; 10], amounts: [Amount; 10]) -> bool
 {
     let mut found = false;
     let mut ended = false;
-    let mut k = 0;
-    while k < 10 {
-        let b = Bid {
-            rate: rates[k],
-            amount: amounts[k],
-        };
-        let bid = is_filled(b);
-        found = found | (ended & bid);
-        ended = ended | !bid;
-        k += 1;
+    for (&rate, &amount) in rates.iter().zip(&amounts) {
+        let bid = is_filled(Bid { rate, amount });
+        found |= ended & bid;
+        ended |= !bid;
     }
     found
-}
-
-// One for a condition that holds.
-fn one_if(b: bool) -> u64
-    ensures { result ≡ cond b 1 0 }
-{
-    if b {
-        return 1;
-    }
-    0
 }
 
 // How many places are filled.
 pub fn count(rates: [Rate; 10], amounts: [Amount; 10]) -> u64
     ensures { result ≡ length (keep filled (bids_from rates amounts 0 10)) }
 {
-    let mut n = 0u64;
-    let mut k = 0;
-    while k < 10 {
-        let b = Bid {
-            rate: rates[k],
-            amount: amounts[k],
-        };
-        n += one_if(is_filled(b));
-        k += 1;
+    let mut n = 0;
+    for (&rate, &amount) in rates.iter().zip(&amounts) {
+        n += u64::from(is_filled(Bid { rate, amount }));
     }
     n
 }
 
-// What can be wrong with a bid: a rate that is too fine, an amount that is too small or off the increment.
-#[derive(Clone, Copy)]
-enum Fault {
-    Fine,
-    Small,
-    Uneven,
-}
-
-// Whether a bid has a fault.
-fn has_fault(b: Bid, fault: Fault, minimum: Amount, increment: Amount) -> bool
-    ensures { result ≡ faulty fault minimum.0 increment.0 (viewed b) }
-{
-    match fault {
-        Fault::Fine => is_fine(b),
-        Fault::Small => is_small(b, minimum),
-        Fault::Uneven => is_uneven(b, minimum, increment),
-    }
-}
-
-// Whether some bid has a fault.
-fn any_with(
-    rates: [Rate; 10],
-    amounts: [Amount; 10],
-    fault: Fault,
-    minimum: Amount,
-    increment: Amount,
-) -> bool
-    ensures { result ≡ any (faulty fault minimum.0 increment.0) (bids_from rates amounts 0 10) }
+// Whether some place has a fault, which is asked of every place.
+fn any_place<F: Fn(Bid) -> bool>(rates: [Rate; 10], amounts: [Amount; 10], has_fault: F) -> bool
+    requires { F.IsAlwaysCallable has_fault }
+    ensures { Asked (F.post has_fault) (bids_from rates amounts 0 10) result }
 {
     let mut found = false;
-    let mut k = 0;
-    while k < 10 {
-        let b = Bid {
-            rate: rates[k],
-            amount: amounts[k],
-        };
-        found = found | has_fault(b, fault, minimum, increment);
-        k += 1;
+    for (&rate, &amount) in rates.iter().zip(&amounts) {
+        found |= has_fault(Bid { rate, amount });
     }
     found
 }
@@ -152,14 +157,14 @@ fn any_with(
 pub fn any_fine(rates: [Rate; 10], amounts: [Amount; 10]) -> bool
     ensures { result ≡ any fine_rate (bids_from rates amounts 0 10) }
 {
-    any_with(rates, amounts, Fault::Fine, Amount(0), Amount(0))
+    any_place(rates, amounts, is_fine)
 }
 
 // Whether some filled place is small.
 pub fn any_small(rates: [Rate; 10], amounts: [Amount; 10], minimum: Amount) -> bool
     ensures { result ≡ any (small_bid minimum.0) (bids_from rates amounts 0 10) }
 {
-    any_with(rates, amounts, Fault::Small, minimum, Amount(0))
+    any_place(rates, amounts, |b| is_small(b, minimum))
 }
 
 // Whether some amount is uneven.
@@ -171,17 +176,7 @@ pub fn any_uneven(
 ) -> bool
     ensures { result ≡ any (uneven_bid minimum.0 increment.0) (bids_from rates amounts 0 10) }
 {
-    any_with(rates, amounts, Fault::Uneven, minimum, increment)
-}
-
-// n less an amount, and nothing where the amount is more.
-pub fn less(n: u64, amount: u64) -> u64
-    ensures { result ≡ n - amount }
-{
-    if n < amount {
-        return 0;
-    }
-    n - amount
+    any_place(rates, amounts, |b| is_uneven(b, minimum, increment))
 }
 
 // Whether the total is above a told maximum; what is left of it falls to zero, so that no sum can overflow.
@@ -190,12 +185,9 @@ pub fn is_over(rates: [Rate; 10], amounts: [Amount; 10], maximum: Amount) -> boo
 {
     let mut over = false;
     let mut left = maximum.0;
-    let mut k = 0;
-    while k < 10 {
-        let amount = amounts[k].0;
-        over = over | (left < amount);
-        left = less(left, amount);
-        k += 1;
+    for amount in &amounts {
+        over |= left < amount.0;
+        left = left.saturating_sub(amount.0);
     }
     (maximum.0 != 0) & over
 }

@@ -99,12 +99,17 @@ viewed_empty codes kept old limits n i e len end k' =
     filled = ap length k ∙ length-append (take n codes) (drop n old) ∙ omega (arith, taken, length-drop n old, small.0)
 
 -- what is left of zeros
-pub zeros_after : (m n : ℕ) → m ≤ n → drop {A = ℕ} m (replicate n 0) ≡ replicate (n - m) 0
-zeros_after zero n h = ap (λ (k : ℕ). replicate {A = ℕ} k 0) (sym (sub-zero n))
-zeros_after (suc m) zero h = absurd (omega arith)
-zeros_after (suc m) (suc n) h =
+zeros_left : (m n : ℕ) → drop {A = ℕ} m (replicate n 0) ≡ replicate (n - m) 0
+zeros_left zero n = ap (λ (k : ℕ). replicate {A = ℕ} k 0) (sym (sub-zero n))
+zeros_left (suc m) zero =
+    let e : 0 ≡ 0 - suc m = omega arith in
+    ap (λ (k : ℕ). replicate {A = ℕ} k 0) e
+zeros_left (suc m) (suc n) =
     let e : n - m ≡ suc n - suc m = omega arith in
-    zeros_after m n (omega arith) ∙ ap (λ (k : ℕ). replicate {A = ℕ} k 0) e
+    zeros_left m n ∙ ap (λ (k : ℕ). replicate {A = ℕ} k 0) e
+
+pub zeros_after : (m n : ℕ) → m ≤ n → drop {A = ℕ} m (replicate n 0) ≡ replicate (n - m) 0
+zeros_after m n h = zeros_left m n
 
 left_of_64 : (n : ℕ) → 64 - up_to64 n ≡ 64 - n
 unfolding up_to64
@@ -114,14 +119,18 @@ left_of_64 n = go (ltb n 64) refl
     go true e = rw e
     go false e = rw e (omega (arith, ltb-false n 64 e))
 
--- the first limits stored, and zeros past them
-pub first_stored : (limits kept : List ℕ) (n i : ℕ) → n ≡ up_to64 (length limits) → i ≡ n → kept ≡ take i limits ++ drop i (replicate 64 0) → kept ≡ first64 limits
+-- the first limits kept, and zeros past them
+pub limits_kept : (limits : List ℕ) → take 64 limits ++ drop (length limits) (replicate 64 0) ≡ first64 limits
 unfolding first64
-first_stored limits kept n i e end k =
-    let all : i ≡ up_to64 (length limits) = end ∙ e in
-    k
-    ∙ ap (λ (m : ℕ). take m limits ++ drop m (replicate 64 0)) all
-    ∙ ap₂ (λ (x y : List ℕ). x ++ y) (first_64 limits) (zeros_after (up_to64 (length limits)) 64 (up_to64_small (length limits)).0 ∙ ap (λ (m : ℕ). replicate {A = ℕ} m 0) (left_of_64 (length limits)))
+limits_kept limits = ap (λ (l : List ℕ). take 64 limits ++ l) (zeros_left (length limits) 64)
+
+-- the first codes kept, and no more than 64 of them
+pub codes_kept : (codes kept limits : List ℕ) (n : ℕ) → n ≡ up_to64 (length codes) → kept ≡ take 64 codes ++ drop (length codes) (replicate 64 0) → viewed (empty_book kept n limits) ≡ new_book (take 64 codes)
+codes_kept codes kept limits n e k =
+    let zeros = replicate {A = ℕ} 64 0 in
+    let past : drop (length codes) zeros ≡ drop (up_to64 (length codes)) zeros = zeros_left (length codes) 64 ∙ ap (λ (m : ℕ). replicate {A = ℕ} m 0) (sym (left_of_64 (length codes))) ∙ sym (zeros_left (up_to64 (length codes)) 64) in
+    viewed_empty codes kept zeros limits n n e (length-replicate {A = ℕ} 64 0) refl
+    (k ∙ ap₂ (λ (x y : List ℕ). x ++ y) (sym (first_64 codes)) past ∙ ap (λ (m : ℕ). take m codes ++ drop m zeros) (sym e))
 
 -- as many limits as codes are kept whole
 pub limits-whole : (limits : List ℕ) (n : ℕ) → length limits ≡ n → n ≤ 64 → take (up_to64 n) (first64 limits) ≡ limits

@@ -1,35 +1,17 @@
--- The search for a code, one index further. Assumes nothing.
-use mathlib.Core.Path.{◌≡◌, ap, ◌∙◌}
-use mathlib.Core.Logic.{◌≢◌}
+-- A code is found where its entry stands. Assumes nothing.
+use mathlib.Core.Path.{◌≡◌, refl, ap, ◌∙◌}
 use mathlib.Core.Bool.{cond}
-use Prim.Native.Nat.{ℕ, suc, ◌+◌, ◌-◌, ◌≤◌, ◌<◌}
-use native.Mathlib.Omega.{arith}
+use mathlib.Core.List.{List, [], ◌∷◌}
+use Prim.Native.Nat.{ℕ, suc}
 use native.Mathlib.Numerals.{add-one}
 use lib.Dec.{eqb}
-use lib.ListN.{get_or}
-use borrow.Author.Tests.{eq-eqb, ne_eqb}
-use Rattle.book.specs.declared.Book.{Book}
-use Rattle.book.specs.declared.Found.TheVariants.{At, Absent}
-use Rattle.book.specs.Viewed.{entry_at, entries_from, find_from}
+use Rattle.std.specs.Prelude.{Some}
+use Rattle.std.specs.List.{position_from}
+use Rattle.rules.specs.Receiving.{Entry}
+use Rattle.book.specs.Viewed.{find_from, codes_in}
 
-find_suc : (b : Book) (c i n : ℕ) → i < n
-    → find_from (entries_from b i (n - i)) c i ≡ cond (eqb (get_or b.codes i 0) c) (At i) (find_from (entries_from b (suc i) (n - suc i)) c (suc i))
-unfolding find_from entries_from entry_at
-find_suc b c i n h = ap (λ (d : ℕ). find_from (entries_from b i d) c i) more
-  where
-    more : n - i ≡ suc (n - suc i)
-    more = omega arith
-
-pub find_hit : (b : Book) (c i n : ℕ) → i < n → get_or b.codes i 0 ≡ c → find_from (entries_from b i (n - i)) c i ≡ At i
-find_hit b c i n h e = find_suc b c i n h ∙ rw (eq-eqb (get_or b.codes i 0) c e)
-
-pub find_miss : (b : Book) (c i n : ℕ) → i < n → get_or b.codes i 0 ≢ c
-    → find_from (entries_from b i (n - i)) c i ≡ find_from (entries_from b (i + 1) (n - (i + 1))) c (i + 1)
-find_miss b c i n h e = find_suc b c i n h ∙ rw (ne_eqb (get_or b.codes i 0) c e, add-one)
-
-pub find_end : (b : Book) (c i n : ℕ) → n ≤ i → find_from (entries_from b i (n - i)) c i ≡ Absent
-unfolding find_from entries_from
-find_end b c i n h = ap (λ (d : ℕ). find_from (entries_from b i d) c i) less
-  where
-    less : n - i ≡ 0
-    less = omega arith
+-- an entry is found where its code first stands
+pub find_codes : (es : List Entry) (c i : ℕ) → position_from (λ (x : ℕ). eqb x c) i (codes_in es) ≡ find_from es c i
+unfolding find_from codes_in
+find_codes [] c i = refl
+find_codes (e ∷ es) c i = ap (cond (eqb e.code c) (Some i)) (ap (λ (j : ℕ). position_from (λ (x : ℕ). eqb x c) j (codes_in es)) (add-one i) ∙ find_codes es c (suc i))

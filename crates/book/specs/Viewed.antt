@@ -1,6 +1,6 @@
 -- The arrays of a book as the entries of document 01, and what finding a code and holding a message mean for them. Assumes nothing.
-use Rattle.std.specs.Prelude.{Bool, true, false, cond, List, [], ◌∷◌, ◌++◌, map, ℕ, zero, suc, ◌*◌, ◌-◌, eqb, ltb, length, get_or, replicate, take}
-use Rattle.std.proofs.Math.Option.{Option, none, some}
+use Rattle.std.specs.Prelude.{Bool, true, false, cond, List, [], ◌∷◌, ◌++◌, map, ℕ, zero, suc, ◌*◌, ◌-◌, eqb, ltb, length, get_or, replicate, take, Option, Some, None, is_some, unwrap_or}
+use Rattle.std.proofs.Math.Option as maybe
 use Rattle.rules.specs.Allotment.{Bid}
 use Rattle.rules.specs.Opening.{Admission, admitting, any}
 use Rattle.places.specs.declared.Rate.{Rate}
@@ -8,8 +8,6 @@ use Rattle.places.specs.declared.Amount.{Amount}
 use Rattle.bids.specs.Columns.{bids_from}
 use Rattle.rules.specs.Receiving.{Submission, Entry, is_after, takes, hold}
 use Rattle.book.specs.declared.Book.{Book}
-use Rattle.book.specs.declared.Found.{Found}
-use Rattle.book.specs.declared.Found.TheVariants.{At, Absent}
 
 -- a rate as its number, in hundred-thousandths of a percent, and back
 abbrev pub hundred_thousandths : Rate → ℕ
@@ -22,8 +20,8 @@ abbrev pub amount_of : ℕ → Amount
 amount_of n = record { 0 = n }
 
 -- 'the reference time last accepted, or none'
-unfoldable pub held_at : Book → ℕ → Option ℕ
-held_at b i = cond (get_or b.has i false) (some (get_or b.held i 0)) none
+unfoldable pub held_at : Book → ℕ → maybe.Option ℕ
+held_at b i = cond (get_or b.has i false) (maybe.some (get_or b.held i 0)) maybe.none
 
 -- 'For each admitted code the book holds the reference time last accepted, or none, and ten bids.'
 unfoldable pub entry_at : Book → ℕ → Entry
@@ -42,28 +40,26 @@ unfoldable pub viewed : Book → List Entry
 viewed b = entries_from b 0 (up_to64 b.n)
 
 -- where a code first stands, its entries counted from i on
-unfoldable pub find_from : List Entry → ℕ → ℕ → Found
-find_from [] c i = Absent
-find_from (e ∷ es) c i = cond (eqb e.code c) (At i) (find_from es c (suc i))
+unfoldable pub find_from : List Entry → ℕ → ℕ → Option ℕ
+find_from [] c i = None
+find_from (e ∷ es) c i = cond (eqb e.code c) (Some i) (find_from es c (suc i))
 
 -- whether the search found an entry, and its index
-abbrev pub is_at : Found → Bool
-is_at (At i) = true
-is_at Absent = false
+abbrev pub is_at : Option ℕ → Bool
+is_at found = is_some found
 
-abbrev pub index_of : Found → ℕ
-index_of (At i) = i
-index_of Absent = 0
+abbrev pub index_of : Option ℕ → ℕ
+index_of found = unwrap_or found 0
 
 -- whether the entry found takes a message of this time; where none is found, none does
-abbrev pub taken_at : Book → Found → ℕ → Bool
-taken_at b (At i) time = is_after time (held_at b i)
-taken_at b Absent time = false
+abbrev pub taken_at : Book → Option ℕ → ℕ → Bool
+taken_at b (Some i) time = is_after time (held_at b i)
+taken_at b None time = false
 
 -- the entry at an index holds a time and bids; past the last entry there is none
 unfoldable pub replaced : List Entry → ℕ → ℕ → List Bid → List Entry
 replaced [] i time bids = []
-replaced (e ∷ es) zero time bids = record { code = e.code; held = some time; bids = bids } ∷ es
+replaced (e ∷ es) zero time bids = record { code = e.code; held = maybe.some time; bids = bids } ∷ es
 replaced (e ∷ es) (suc i) time bids = e ∷ replaced es i time bids
 
 -- the codes of entries
@@ -84,8 +80,8 @@ unfoldable pub first64 : List ℕ → List ℕ
 first64 xs = take 64 xs ++ replicate (64 - length xs) 0
 
 -- what the entry at an index holds; past the last entry there is none
-unfoldable pub held_in : List Entry → ℕ → Option ℕ
-held_in [] i = none
+unfoldable pub held_in : List Entry → ℕ → maybe.Option ℕ
+held_in [] i = maybe.none
 held_in (e ∷ es) zero = e.held
 held_in (e ∷ es) (suc i) = held_in es i
 

@@ -1,44 +1,35 @@
 // One code's place in the book: where it stands, whether it takes a message, and what it holds after one.
-ghost use Rattle.std.specs.Prelude.{◌≡◌, ◌*◌, ◌<◌, length};
+ghost use Rattle.std.specs.Prelude.{◌≡◌, ◌==◌, ◌*◌, ◌<◌, length, position};
 ghost use Rattle.bids.specs.Columns.{bids_from};
 ghost use Rattle.book.specs.declared.Book.{Book};
 ghost use Rattle.book.specs.Viewed.{viewed, limits_in, find_from, index_of, taken_at, replaced};
 
-use crate::{Book, Found, up_to_64};
+use crate::{Book, up_to_64};
 use places::{Amount, Rate};
 
-// A code as a number of 64 bits.
-fn wide(c: u32) -> u64
-    ensures { result ≡ c }
+// Where a code first stands among these.
+fn position_of(codes: &[u32], code: u64) -> Option<usize>
+    ensures { result ≡ position (λ c. c == code) codes.now }
 {
-    c as u64
+    codes.iter().position(|c| u64::from(*c) == code)
 }
 
 // The first place where a code stands, of a book with these codes, so many of which are admitted.
-pub fn find_in(codes: &[u32], n: usize, code: u64) -> Found
+pub fn find_in(codes: &[u32], n: usize, code: u64) -> Option<usize>
     requires { length codes.now ≡ 64 }
     ensures { (b : Book) → b.codes ≡ codes.now → b.n ≡ n → result ≡ find_from (viewed b) code 0 }
 {
-    let end = up_to_64(n);
-    let mut i = 0;
-    while i < end {
-        let c = wide(codes[i]);
-        if c == code {
-            return Found::At(i);
-        }
-        i += 1;
-    }
-    Found::Absent
+    position_of(&codes[..up_to_64(n)], code)
 }
 
 // Whether the entry found holds nothing, or a time before this one, in a book with these times and flags.
-pub fn takes_at<'a>(held: &'a [u64], has: &'a [bool], found: Found, time: u64) -> bool
+pub fn takes_at<'a>(held: &'a [u64], has: &'a [bool], found: Option<usize>, time: u64) -> bool
     requires { (length held.now ≡ 64) × (length has.now ≡ 64) × (index_of found < 64) }
     ensures { (b : Book) → b.held ≡ held.now → b.has ≡ has.now → result ≡ taken_at b found time }
 {
     match found {
-        Found::At(at) => !has[at] | (held[at] < time),
-        Found::Absent => false,
+        Some(at) => !has[at] | (held[at] < time),
+        None => false,
     }
 }
 
@@ -54,12 +45,8 @@ pub fn hold(b: Book, at: usize, time: u64, rates: [Rate; 10], amounts: [Amount; 
     let mut rs = b.rates;
     let mut xs = b.amounts;
     let base = 10 * at;
-    let mut i = 0;
-    while i < 10 {
-        rs[base + i] = rates[i];
-        xs[base + i] = amounts[i];
-        i += 1;
-    }
+    rs[base..base + 10].copy_from_slice(&rates);
+    xs[base..base + 10].copy_from_slice(&amounts);
     let codes = b.codes;
     let limits = b.limits;
     Book {

@@ -3,10 +3,10 @@
 
 pub mod internal;
 
-ghost use Rattle.std.specs.Prelude.{◌≡◌, map, length, take};
+ghost use Rattle.std.specs.Prelude.{◌≡◌, ◌++◌, map, length, take, drop};
 ghost use Rattle.rules.specs.Receiving.{new_book};
 ghost use Rattle.bids.specs.Columns.{cents};
-ghost use Rattle.book.specs.Viewed.{hundred_thousandths, amount_of, up_to64, first64, viewed, limits_in, find_from, is_at, index_of};
+ghost use Rattle.book.specs.Viewed.{hundred_thousandths, amount_of, up_to64, first64, viewed, limits_in, find_from};
 
 use internal::find_in;
 use places::{Amount, Rate};
@@ -23,70 +23,33 @@ pub struct Book {
     pub amounts: [Amount; 640],
 }
 
-// Where a code stands in the book, or that it does not.
-#[derive(Clone, Copy)]
-pub enum Found {
-    At(usize),
-    Absent,
-}
-
-// Whether a code that was looked for was found.
-pub fn is_found(found: Found) -> bool
-    ensures { result ≡ is_at found }
-{
-    match found {
-        Found::At(at) => true,
-        Found::Absent => false,
-    }
-}
-
-// Where it was found, or 0.
-pub fn index_of(found: Found) -> usize
-    ensures { result ≡ index_of found }
-{
-    match found {
-        Found::At(at) => at,
-        Found::Absent => 0,
-    }
-}
-
 // A number, or 64 where it is larger.
 pub fn up_to_64(n: usize) -> usize
     ensures { result ≡ up_to64 n }
 {
-    if n < 64 { n } else { 64 }
+    n.min(64)
 }
 
-// The first 64 limits, and zeros where there are fewer.
-fn first_64(limits: &[u64]) -> [u64; 64]
-    ensures { result ≡ first64 limits.now }
+// Keeps as many items as there is room for; what stands past them stays.
+fn keep_first<T: Copy>(kept: &mut [T], items: &[T])
+    ensures { kept.new ≡ take (length kept.old) items.now ++ drop (length items.now) kept.old }
 {
-    let n = up_to_64(limits.len());
-    let mut kept = [0u64; 64];
-    let mut i = 0;
-    while i < n {
-        kept[i] = limits[i];
-        i += 1;
-    }
-    kept
+    let n = items.len().min(kept.len());
+    kept[..n].copy_from_slice(&items[..n]);
 }
 
 // The book of a newly opened tender, with the first 64 codes and limits and nothing held.
 pub fn new_book(codes: &[u32], limits: &[u64]) -> Book
     ensures { (viewed result ≡ new_book (take 64 codes.now)) × (limits_in result ≡ take (up_to64 (length codes.now)) (first64 limits.now)) }
 {
-    let n = up_to_64(codes.len());
-    let mut kept = [0u32; 64];
-    let mut i = 0;
-    while i < n {
-        kept[i] = codes[i];
-        i += 1;
-    }
-    let caps = first_64(limits);
+    let mut first_codes = [0; 64];
+    keep_first(&mut first_codes, codes);
+    let mut first_limits = [0; 64];
+    keep_first(&mut first_limits, limits);
     Book {
-        codes: kept,
-        n,
-        limits: caps,
+        codes: first_codes,
+        n: up_to_64(codes.len()),
+        limits: first_limits,
         held: [0u64; 64],
         has: [false; 64],
         rates: [Rate(0); 640],
@@ -95,7 +58,7 @@ pub fn new_book(codes: &[u32], limits: &[u64]) -> Book
 }
 
 // The first place in the book where a code stands.
-pub fn find(b: Book, code: u64) -> Found
+pub fn find(b: Book, code: u64) -> Option<usize>
     ensures { result ≡ find_from (viewed b) code 0 }
 {
     let codes = b.codes;
@@ -106,37 +69,19 @@ pub fn find(b: Book, code: u64) -> Found
 pub fn numbers_of(from: [Rate; 640]) -> [u32; 640]
     ensures { result ≡ map hundred_thousandths from }
 {
-    let mut numbers = [0u32; 640];
-    let mut i = 0;
-    while i < 640 {
-        numbers[i] = from[i].0;
-        i += 1;
-    }
-    numbers
+    from.map(|rate| rate.0)
 }
 
 // The eurocents of 640 amounts.
 pub fn cents_of(from: [Amount; 640]) -> [u64; 640]
     ensures { result ≡ map cents from }
 {
-    let mut cents = [0u64; 640];
-    let mut i = 0;
-    while i < 640 {
-        cents[i] = from[i].0;
-        i += 1;
-    }
-    cents
+    from.map(|amount| amount.0)
 }
 
 // The amounts of 640 numbers of eurocents, from 640 zeros on: an award for each place.
 pub fn amounts_of(cents: [u64; 640]) -> [Amount; 640]
     ensures { result ≡ map amount_of cents }
 {
-    let mut amounts = [Amount(0); 640];
-    let mut i = 0;
-    while i < 640 {
-        amounts[i] = Amount(cents[i]);
-        i += 1;
-    }
-    amounts
+    cents.map(Amount)
 }

@@ -2,22 +2,24 @@
 ghost use Rattle.book_allotment.specs.Allotted.{AllotsBook};
 
 use book::{Book, amounts_of, cents_of, numbers_of, up_to_64};
-use marginal::MarginalRate;
 use outcomes::internal::allot_bids;
-use places::Amount;
+use places::{Amount, Rate};
 use refusals::Refusal;
 use terms::Terms;
 
-// The awards of all places in book order and the marginal rate: zeros and none where the call is refused.
+// The awards of all places in book order and the marginal rate.
 #[derive(Clone, Copy)]
 pub struct BookAllotment {
-    pub refusal: Refusal,
     pub awards: [Amount; 640],
-    pub marginal: MarginalRate,
+    pub marginal: Option<Rate>,
 }
 
 // Allots to the bids of a book, unless a call's first conditions or condition 16 refuse.
-pub fn allot_book(first: Refusal, terms: Terms, book: Book) -> BookAllotment
+pub fn allot_book(
+    first: Result<(), Refusal>,
+    terms: Terms,
+    book: Book,
+) -> Result<BookAllotment, Refusal>
     ensures { AllotsBook first terms book result }
 {
     let limits = book.limits;
@@ -28,19 +30,16 @@ pub fn allot_book(first: Refusal, terms: Terms, book: Book) -> BookAllotment
     let n = up_to_64(book.n);
     let end = 10 * n;
     let mut cents = [0u64; 640];
-    let answer = allot_bids(
+    let marginal = allot_bids(
         first,
         terms,
         &limits[0..n],
         &rates[0..end],
         &amounts[0..end],
         &mut cents[0..end],
-    );
-    let refusal = answer.refusal;
-    let marginal = answer.marginal;
-    BookAllotment {
-        refusal,
+    )?;
+    Ok(BookAllotment {
         awards: amounts_of(cents),
         marginal,
-    }
+    })
 }

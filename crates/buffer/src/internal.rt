@@ -8,13 +8,14 @@ use places::{Amount, Rate};
 use terms::Terms;
 
 // The side of a number.
+#[tactic(auto, unfolding(crate::specs::Words::side_in))]
 fn side_of(w: u64) -> Side
     ensures { result ≡ side_in w }
 {
-    if w == 0 {
-        return Side::La;
+    match w {
+        0 => Side::La,
+        _ => Side::Lp,
     }
-    Side::Lp
 }
 
 // The identifier of eleven words.
@@ -22,13 +23,7 @@ fn identifier_in(words: &[u64]) -> [u8; 11]
     requires { length words.now ≡ 11 }
     ensures { result ≡ map byte_in words.now }
 {
-    let mut identifier = [0u8; 11];
-    let mut i = 0;
-    while i < 11 {
-        identifier[i] = (words[i] % 256) as u8;
-        i += 1;
-    }
-    identifier
+    std::array::from_fn(|i| (words[i] % 256) as u8)
 }
 
 // The terms of the tender.

@@ -6,7 +6,8 @@ ghost use Rattle.buffer_allotment.specs.Allotted.{AllotsWords, PreviewsIn};
 use book::up_to_64;
 use buffer::internal::terms_in;
 use buffer::{narrow, state_of};
-use outcomes::internal::{AllotAnswer, allot_bids};
+use outcomes::internal::allot_bids;
+use places::Rate;
 use refusals::{Refusal, ended_refusal};
 
 // The rates of the first places.
@@ -14,17 +15,19 @@ fn rates_in(words: &[u64], end: usize) -> [u32; 640]
     requires { (tender_words ≤ length words.now) × (end ≤ 640) }
     ensures { take end result ≡ take end (map low32 (part 216 640 words.now)) }
 {
-    let mut rates = [0u32; 640];
-    let mut i = 0;
-    while i < end {
+    let mut rates = [0; 640];
+    for i in 0..end {
         rates[i] = narrow(words[216 + i]);
-        i += 1;
     }
     rates
 }
 
 // Allots to the bids in the book, unless a call's first conditions or condition 16 refuse; the awards are zeros before.
-pub fn awards_in(words: &[u64], first: Refusal, awards: &mut [u64]) -> AllotAnswer
+pub fn awards_in(
+    words: &[u64],
+    first: Result<(), Refusal>,
+    awards: &mut [u64],
+) -> Result<Option<Rate>, Refusal>
     requires { (is_tender words.now ≡ true) × (awards.old ≡ replicate 640 0) }
     ensures { AllotsWords words.now first result awards.new }
 {
@@ -43,7 +46,7 @@ pub fn awards_in(words: &[u64], first: Refusal, awards: &mut [u64]) -> AllotAnsw
 }
 
 // What closing and allotting would give, or allotting where the tender is closed already; the awards are zeros before.
-pub fn preview_in(words: &[u64], awards: &mut [u64]) -> AllotAnswer
+pub fn preview_in(words: &[u64], awards: &mut [u64]) -> Result<Option<Rate>, Refusal>
     requires { (is_tender words.now ≡ true) × (awards.old ≡ replicate 640 0) }
     ensures { PreviewsIn words.now result awards.new }
 {

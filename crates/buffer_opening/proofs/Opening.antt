@@ -1,6 +1,7 @@
 -- What opening in words promises, refused or not. Assumes nothing.
+use Rattle.std.specs.Prelude.{Ok, Err}
 use mathlib.Core.Path.{◌≡◌, refl, sym, ap, ◌∙◌}
-use mathlib.Core.Bool.{true, false, false≢true}
+use mathlib.Core.Bool.{true, false≢true}
 use mathlib.Core.List.{List, [], ◌∷◌, ◌++◌}
 use mathlib.Core.Option.{Option, none, some}
 use Prim.Native.Nat.{ℕ, ◌≤◌, ◌<◌}
@@ -10,16 +11,14 @@ use lib.Seq.{drop_at}
 use Rattle.output.specs.Output.{Wrote}
 use Rattle.output.proofs.Output.{from_start}
 use Rattle.envelope.specs.Refusals.{unless_refused}
-use Rattle.rules.specs.Opening as rules
-use Rattle.rules.specs.Opening.{Admission, admitting, nobody, not_announcement, other_origin, malformed_announcement, unknown_type, impossible_numbers, dates_disordered, bad_codes, opening_refused, terms_of, no_terms}
+use Rattle.rules.specs.Opening.{Admission, admitting, not_announcement, other_origin, malformed_announcement, unknown_type, impossible_numbers, dates_disordered, bad_codes, opening_refused, terms_of}
 use Rattle.rules.specs.Receiving.{new_book}
 use Rattle.rules.specs.Calls.{Open, no_tender, open_tender}
 use Rattle.rules.proofs.Opening.{next_condition, few-codes, rising-codes, as_many_limits}
 use Rattle.terms.specs.declared.Terms as declared
-use Rattle.terms.specs.declared.OpenAnswer.{OpenAnswer}
+use Rattle.terms.specs.declared.OpenRefusal.{OpenRefusal}
 use Rattle.terms.specs.Viewed as terms
-use Rattle.terms.specs.Viewed.{open_refusal, is_opened, admitted_unless, opening_terms}
-use Rattle.terms.proofs.Forming.{opened_none, refused_some}
+use Rattle.terms.specs.Viewed.{open_number, OpensTerms}
 use Rattle.book.specs.Viewed.{codes_in}
 use Rattle.book.proofs.Joining.{new_codes}
 use Rattle.buffer.specs.Words.{tender_words, state_in, tender_in, is_tender}
@@ -39,39 +38,25 @@ some_code m [] limits h =
     absurd (false≢true (sym (next_condition 7 true _ c6.1).0))
 some_code m (c ∷ codes) limits h = omega arith
 
-module _ (m : List ℕ) (admission : Admission) (a : OpenAnswer) (t : declared.Terms)
-    (e : ◌≡◌ {A = Option ℕ × rules.Terms} (open_refusal a, terms.viewed t (admitted_unless m admission)) (opening_terms m admission)) where
-  abbrev codes : List ℕ
-  codes = admission.codes
-
-  number : open_refusal a ≡ opening_refused m admission
-  unfolding opening_terms
-  number = ap (λ (p : Option ℕ × rules.Terms). p.0) e
-
+module _ (m : List ℕ) (admission : Admission) where
   -- refused, nothing is written
-  pub opens-nothing : (ws : List ℕ) → is_opened a ≡ false → OpensIn ws m admission a ws
-  opens-nothing ws h =
-      let n = (refused_some a h).0 in
-      let holds : opening_refused m admission ≡ some n = sym number ∙ (refused_some a h).1 in
-      let never : opening_refused m admission ≡ none → ⊥ = λ x. absurd (let z : ◌≡◌ {A = Option ℕ} (some n) none = sym holds ∙ x in let y : ◌≡◌ {A = ℕ} 0 1 = cc in omega arith) in
+  pub opens-nothing : (ws : List ℕ) (f : OpenRefusal) → some (open_number f) ≡ opening_refused m admission → OpensIn ws m admission (Err f) ws
+  opens-nothing ws f number =
+      let never : opening_refused m admission ≡ none → ⊥ = λ x. cc in
       record {
         number = number;
-        words = sym (ap (λ (o : Option ℕ). unless_refused o ws (opened_numbers (held (terms_of m admission)) admission ++ drop tender_words ws)) holds);
+        words = ap (λ (o : Option ℕ). unless_refused o ws (opened_numbers (held (terms_of m admission)) admission ++ drop tender_words ws)) number;
         past = refl;
         tender = λ x. absurd (never x);
         given = λ x. absurd (never x);
       }
 
-  module _ (h : is_opened a ≡ true) where
-    pub none_holds : opening_refused m admission ≡ none
-    none_holds = sym number ∙ opened_none a h
+  module _ (t : declared.Terms) (e : OpensTerms m admission (Ok t)) where
+    abbrev codes : List ℕ
+    codes = admission.codes
 
-    terms_are : terms.viewed t (unless_refused (opening_refused m admission) nobody admission) ≡ unless_refused (opening_refused m admission) no_terms (terms_of m admission)
-    unfolding opening_terms admitted_unless
-    terms_are = ap (λ (p : Option ℕ × rules.Terms). p.1) e
-
-    terms_open : terms.viewed t admission ≡ terms_of m admission
-    terms_open = rw none_holds at terms_are
+    none_holds : opening_refused m admission ≡ none
+    none_holds = sym e.number
 
     pub few : length codes ≤ 64
     few = few-codes m admission none_holds
@@ -100,15 +85,15 @@ module _ (m : List ℕ) (admission : Admission) (a : OpenAnswer) (t : declared.T
           let entries = entries-read t narrow long admission rest few counted in
           let admitted = ap codes_in entries ∙ new_codes codes in
           let capped = limits-read t narrow long admission rest few counted in
-          λ i. record { terms = ((λ j. terms.viewed (terms-same j) (admitting (admitted j) (capped j))) ∙ terms_open) i; state = Open; book = entries i }
+          λ i. record { terms = ((λ j. terms.viewed (terms-same j) (admitting (admitted j) (capped j))) ∙ e.terms) i; state = Open; book = entries i }
 
-      pub opens : OpensIn ws m admission a after
+      pub opens : OpensIn ws m admission (Ok tt) after
       unfolding open_tender
       opens =
           let rest = drop tender_words ws in
-          let same : t ≡ held (terms_of m admission) = ap held terms_open in
+          let same : t ≡ held (terms_of m admission) = ap held e.terms in
           record {
-            number = number;
+            number = e.number;
             words = after_is ∙ ap (λ (x : declared.Terms). opened_numbers x admission ++ rest) same ∙ sym (ap (λ (o : Option ℕ). unless_refused o ws (opened_numbers (held (terms_of m admission)) admission ++ rest)) none_holds);
             past = ap (drop tender_words) after_is ∙ drop_at (opened_numbers t admission) rest tender_words opened_long_enough;
             tender = λ _. ap tender_in after_is ∙ tender_is ∙ sym (ap (λ (o : Option ℕ). unless_refused o no_tender (record { terms = terms_of m admission; state = Open; book = new_book codes })) none_holds);

@@ -1,12 +1,12 @@
 -- What opening a tender in the words of a buffer gives. Assumes nothing.
-use Rattle.std.specs.Prelude.{◌≡◌, true, List, [], ◌∷◌, ◌++◌, map, ℕ, ◌-◌, length, drop, replicate}
+use Rattle.std.specs.Prelude.{◌≡◌, true, List, [], ◌∷◌, ◌++◌, map, ℕ, ◌-◌, length, drop, replicate, Result}
 use Rattle.std.proofs.Math.Option.{none}
 use Rattle.envelope.specs.Refusals.{unless_refused}
 use Rattle.rules.specs.Opening as opening
 use Rattle.rules.specs.Opening.{Admission, opening_refused, terms_of}
 use Rattle.rules.specs.Calls as rules
 use Rattle.terms.specs.declared.Terms.{Terms}
-use Rattle.terms.specs.declared.OpenAnswer.{OpenAnswer}
+use Rattle.terms.specs.declared.OpenRefusal.{OpenRefusal}
 use Rattle.terms.specs.Viewed.{open_refusal}
 use Rattle.book.specs.Viewed.{rate_of, amount_of}
 use Rattle.buffer.specs.Words.{tender_words, form_number, byte_in, low32, tender_in, is_tender, terms_numbers}
@@ -43,7 +43,7 @@ opened_numbers t a =
     ++ (a.limits ++ replicate (64 - length a.limits) 0)
 
 -- opening in words ws: the answer r, and the words after it
-pub record OpensIn (ws m : List ℕ) (a : Admission) (r : OpenAnswer) (after : List ℕ) : Type 0 where
+pub record OpensIn (ws m : List ℕ) (a : Admission) (r : Result (Unit {0}) OpenRefusal) (after : List ℕ) : Type 0 where
   -- document 01's number of the refusal, or none
   pub number : open_refusal r ≡ opening_refused m a
   -- every word: those that came in where opening is refused, else the numbers of the new tender and the words past them

@@ -1,25 +1,21 @@
 -- Laws of what is told for a code: its entry, its time and its places in the words. Assumes nothing.
 use mathlib.Core.Path.{◌≡◌, refl, sym, ap, ap₂, ◌∙◌}
-use mathlib.Core.Bool.{Bool, true, false, cond, false≢true}
-use mathlib.Core.List.{List, [], ◌∷◌, ◌++◌, map, map-append}
-use mathlib.Core.Option.{Option, none, some}
+use mathlib.Core.Bool.{Bool, true, false, cond}
+use mathlib.Core.List.{List, ◌∷◌, ◌++◌, map}
+use mathlib.Core.Option as maybe
 use Prim.Native.Nat.{ℕ, zero, suc, ◌+◌, ◌*◌, ◌-◌, ◌≤◌, ◌<◌}
 use native.Mathlib.Omega.{arith}
-use native.Mathlib.Numerals.{add-one}
 use lib.Dec.{eqb, ltb}
-use lib.ListN.{length, take, drop, get_or, length-map, length-take, length-drop}
-use lib.Seq.{drop-cons, take-suc}
-use Rattle.output.specs.Output.{Wrote}
-use Rattle.output.proofs.Output.{then, said}
+use lib.ListN.{length, take, drop, get_or, length-take, length-drop}
+use lib.Seq.{drop-cons}
+use Rattle.std.specs.Prelude.{Option, Some, None}
 use Rattle.places.specs.declared.Rate.{Rate}
 use Rattle.places.specs.declared.Amount.{Amount}
 use Rattle.rules.specs.Allotment.{Bid}
 use Rattle.rules.specs.Receiving.{Entry}
 use Rattle.bids.specs.Columns.{no_rate, no_amount, bids_from}
 use Rattle.book.specs.declared.Book.{Book}
-use Rattle.book.specs.declared.Found.{Found}
-use Rattle.book.specs.declared.Found.TheVariants.{At, Absent}
-use Rattle.book.specs.Viewed.{amount_of, entry_at, entries_from, up_to64, viewed, find_from, is_at, index_of}
+use Rattle.book.specs.Viewed.{amount_of, entry_at, entries_from, up_to64, viewed, find_from}
 use Rattle.book.proofs.Mapped.{mapped_at}
 use Rattle.buffer.specs.Words.{tender_words, part, low32, stored_rate, book_in}
 use Rattle.buffer.proofs.Parts.{part_length, word_at}
@@ -27,9 +23,9 @@ use Rattle.buffer.proofs.Words.{held_at_lem}
 use Rattle.buffer_questions.specs.Told.{entry_of, time_numbers, held_numbers}
 
 -- the entry that a search found
-abbrev entry_found : Book → Found → Option Entry
-entry_found b (At i) = some (entry_at b i)
-entry_found b Absent = none
+abbrev entry_found : Book → Option ℕ → maybe.Option Entry
+entry_found b (Some i) = maybe.some (entry_at b i)
+entry_found b None = maybe.none
 
 entry_from : (b : Book) (c i d : ℕ) → entry_of (entries_from b i d) c ≡ entry_found b (find_from (entries_from b i d) c i)
 unfolding entry_of entries_from find_from
@@ -37,36 +33,22 @@ entry_from b c i zero = refl
 entry_from b c i (suc d) = go (eqb (entry_at b i).code c) (entry_from b c (suc i) d)
   where
     go : (t : Bool) → entry_of (entries_from b (suc i) d) c ≡ entry_found b (find_from (entries_from b (suc i) d) c (suc i))
-        → cond t (some (entry_at b i)) (entry_of (entries_from b (suc i) d) c) ≡ entry_found b (cond t (At i) (find_from (entries_from b (suc i) d) c (suc i)))
+        → cond t (maybe.some (entry_at b i)) (entry_of (entries_from b (suc i) d) c) ≡ entry_found b (cond t (Some i) (find_from (entries_from b (suc i) d) c (suc i)))
     go true rest = refl
     go false rest = rest
 
-found_there : (b : Book) (found : Found) → is_at found ≡ true → some (entry_at b (index_of found)) ≡ entry_found b found
-found_there b (At i) h = refl
-found_there b Absent h = absurd (false≢true h)
-
-found_nowhere : (b : Book) (found : Found) → is_at found ≡ false → none ≡ entry_found b found
-found_nowhere b (At i) h = absurd (false≢true (sym h))
-found_nowhere b Absent h = refl
-
-module _ (b : Book) (c : ℕ) (found : Found) (e : found ≡ find_from (viewed b) c 0) where
+module _ (b : Book) (c : ℕ) (found : Option ℕ) (e : found ≡ find_from (viewed b) c 0) where
   entry_found_lem : entry_found b found ≡ entry_of (viewed b) c
   unfolding viewed
   entry_found_lem = ap (entry_found b) e ∙ sym (entry_from b c 0 (up_to64 b.n))
 
   -- a code that is found has the entry at the index found
-  pub found-entry : is_at found ≡ true → some (entry_at b (index_of found)) ≡ entry_of (viewed b) c
-  found-entry h = found_there b found h ∙ entry_found_lem
+  pub found-entry : (at : ℕ) → found ≡ Some at → maybe.some (entry_at b at) ≡ entry_of (viewed b) c
+  found-entry at h = sym (ap (entry_found b) h) ∙ entry_found_lem
 
   -- one that is not has none
-  pub absent_entry : is_at found ≡ false → none ≡ entry_of (viewed b) c
-  absent_entry h = found_nowhere b found h ∙ entry_found_lem
-
--- one more rate
-pub rate_more : {d d₁ d₂ : List ℕ} {at e₁ e₂ : ℕ} (l : List ℕ) (k w : ℕ) → at ≤ length d → k < length l → w ≡ low32 (get_or l k 0) → Wrote d at (map low32 (take k l)) d₁ e₁ → Wrote d₁ e₁ (w ∷ []) d₂ e₂ → Wrote d at (map low32 (take (k + 1) l)) d₂ e₂
-rate_more l k w h i e v u =
-    let more : take k l ++ (get_or l k 0 ∷ []) ≡ take (k + 1) l = rw add-one (sym (take-suc l k 0 i)) in
-    said (ap (λ (x : ℕ). map low32 (take k l) ++ (x ∷ [])) e ∙ sym (map-append low32 (take k l) (get_or l k 0 ∷ [])) ∙ ap (map low32) more) (then h v u)
+  pub absent_entry : found ≡ None → maybe.none ≡ entry_of (viewed b) c
+  absent_entry h = sym (ap (entry_found b) h) ∙ entry_found_lem
 
 module _ (ws : List ℕ) (long : tender_words ≤ length ws) where
   abbrev rates : List Rate
@@ -111,14 +93,14 @@ module _ (ws : List ℕ) (long : tender_words ≤ length ws) where
     ten : (from to : ℕ) → from + 10 ≡ to → to + 630 ≤ length ws → length (take (to + 10 * at - (from + 10 * at)) (drop (from + 10 * at) ws)) ≡ 10
     ten from to e h = length-take (to + 10 * at - (from + 10 * at)) (drop (from + 10 * at) ws) ∙ omega (arith, length-drop (from + 10 * at) ws)
 
-    pub rates_long : length (map low32 rate-words) ≡ 10
-    rates_long = length-map rate-words low32 ∙ ten 216 226 (omega arith) (omega arith)
+    pub rates_long : length rate-words ≡ 10
+    rates_long = ten 216 226 (omega arith) (omega arith)
 
     pub amounts_long : length amount-words ≡ 10
     amounts_long = ten 856 866 (omega arith) (omega arith)
 
     -- the words of a code, one part after the other
-    pub held-joined : (1 ∷ time_numbers (cond (ltb 0 (get_or ws (152 + at) 0)) (some (get_or ws (88 + at) 0)) none)) ++ map low32 rate-words ++ amount-words ≡ held_numbers (some (entry_at (book_in ws) at))
+    pub held-joined : (1 ∷ time_numbers (cond (ltb 0 (get_or ws (152 + at) 0)) (maybe.some (get_or ws (88 + at) 0)) maybe.none)) ++ map low32 rate-words ++ amount-words ≡ held_numbers (maybe.some (entry_at (book_in ws) at))
     unfolding held_numbers entry_at book_in
     held-joined =
         let r : 226 + 10 * at - (216 + 10 * at) ≡ 10 = omega arith in

@@ -8,12 +8,11 @@ ghost use Rattle.book.specs.Viewed.{entry_at};
 ghost use Rattle.buffer.specs.Words.{tender_words, part, low32, terms_in, book_in, tender_in, is_tender, terms_numbers};
 ghost use Rattle.buffer_questions.specs.Told.{counted_numbers, entry_of, time_numbers, held_numbers};
 
-use book::{index_of, is_found};
 use buffer::internal::terms_in;
 use buffer::narrow;
-use buffer_opening::internal::{put_terms, put_words};
+use buffer_opening::internal::put_terms;
 use buffer_search::internal::find;
-use numbers::internal::{put, put_first, put_three};
+use numbers::internal::{put, put_each, put_first, put_three};
 
 // Tells as many of the 21 numbers of the terms as the array has room for.
 pub fn tell_terms(words: &[u64], told: &mut [u64])
@@ -33,7 +32,7 @@ fn tell_column(words: &[u64], from: usize, told: &mut [u64])
     let n = words[2] as usize;
     let mut all = [0; 65];
     let column_at = put(&mut all, 0, words[2]);
-    put_words(&mut all, column_at, &words[from..from + n]);
+    put_each(&mut all, column_at, &words[from..from + n], u64::from);
     put_first(told, &all);
 }
 
@@ -51,20 +50,6 @@ pub fn tell_limits(words: &[u64], told: &mut [u64])
     ensures { told.new ≡ in_array (counted_numbers (tender_in words.now).terms.admission.limits) told.old }
 {
     tell_column(words, 1496, told);
-}
-
-// Writes the last 32 bits of words, which is how rates are stored.
-fn put_rates(numbers: &mut [u64], at: usize, words: &[u64]) -> usize
-    requires { at + length words.now ≤ length numbers.old }
-    ensures { Wrote numbers.old at (map low32 words.now) numbers.new result }
-{
-    let mut end = at;
-    let mut k = 0;
-    while k < words.len() {
-        end = put(numbers, end, narrow(words[k]) as u64);
-        k += 1;
-    }
-    end
 }
 
 // Writes that a code is admitted, and the time that it holds, if its flag is not 0.
@@ -85,8 +70,10 @@ fn put_held(numbers: &mut [u64], words: &[u64], at: usize) -> usize
 {
     let places = 10 * at;
     let rates_at = put_time(numbers, words[152 + at], words[88 + at]);
-    let amounts_at = put_rates(numbers, rates_at, &words[216 + places..226 + places]);
-    put_words(numbers, amounts_at, &words[856 + places..866 + places])
+    let rates = &words[216 + places..226 + places];
+    let amounts_at = put_each(numbers, rates_at, rates, |word| u64::from(narrow(word)));
+    let amounts = &words[856 + places..866 + places];
+    put_each(numbers, amounts_at, amounts, u64::from)
 }
 
 // Tells what is held for a code, as many of the 23 numbers as the array has room for.
@@ -95,11 +82,8 @@ pub fn tell_held(words: &[u64], code: u64, told: &mut [u64])
     ensures { told.new ≡ in_array (held_numbers (entry_of (tender_in words.now).book code)) told.old }
 {
     let mut all = [0; 23];
-    let found = find(words, code);
-    if !is_found(found) {
-        put_first(told, &all);
-        return;
+    if let Some(at) = find(words, code) {
+        put_held(&mut all, words, at);
     }
-    put_held(&mut all, words, index_of(found));
     put_first(told, &all);
 }

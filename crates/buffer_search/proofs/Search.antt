@@ -9,10 +9,10 @@ use native.Mathlib.Omega.{arith}
 use lib.Dec.{eqb, ltb}
 use lib.ListN.{length, get_or}
 use borrow.Author.Tests.{lt-ltb, ltb-true, ltb-false, eq-eqb, ne_eqb}
+use Rattle.std.specs.Prelude.{Some, None}
 use Rattle.laws.proofs.Tests.{and_left, and_right}
 use Rattle.rules.specs.Opening.{rising}
 use Rattle.rules.specs.Receiving.{Entry}
-use Rattle.book.specs.declared.Found.TheVariants.{At, Absent}
 use Rattle.book.specs.Viewed.{find_from, codes_in}
 use Rattle.buffer_search.specs.Search.{find_in, is_below, AllBelow, AsManyBelow}
 
@@ -75,28 +75,28 @@ module _ (l : List ℕ) (r : rising l ≡ true) (c : ℕ) where
       at_least there = ltb-false (get_or l at 0) c (sym (ap (λ (t : Bool). t && ltb (get_or l at 0) c) (lt-ltb at (length l) there)) ∙ h)
 
 -- a code that stands at an index, those before it being others
-found_at : (l : List ℕ) (c at i : ℕ) → at < length l → ((k : ℕ) → k < at → get_or l k 0 ≢ c) → get_or l at 0 ≡ c → find_in l c i ≡ At (i + at)
+found_at : (l : List ℕ) (c at i : ℕ) → at < length l → ((k : ℕ) → k < at → get_or l k 0 ≢ c) → get_or l at 0 ≡ c → find_in l c i ≡ Some (i + at)
 unfolding find_in
 found_at [] c at i h others e = absurd (omega arith)
-found_at (d ∷ l) c zero i h others e = rw (eq-eqb d c e) (ap At (sym (add-zero i)))
+found_at (d ∷ l) c zero i h others e = rw (eq-eqb d c e) (ap Some (sym (add-zero i)))
 found_at (d ∷ l) c (suc at) i h others e =
     let next : suc i + at ≡ i + suc at = omega arith in
-    rw (ne_eqb d c (others 0 (omega arith))) (found_at l c at (suc i) (omega arith) (λ k q. others (suc k) (omega arith)) e ∙ ap At next)
+    rw (ne_eqb d c (others 0 (omega arith))) (found_at l c at (suc i) (omega arith) (λ k q. others (suc k) (omega arith)) e ∙ ap Some next)
 
 -- a code that stands nowhere
-nowhere : (l : List ℕ) (c i : ℕ) → ((k : ℕ) → k < length l → get_or l k 0 ≢ c) → find_in l c i ≡ Absent
+nowhere : (l : List ℕ) (c i : ℕ) → ((k : ℕ) → k < length l → get_or l k 0 ≢ c) → find_in l c i ≡ None
 unfolding find_in
 nowhere [] c i others = refl
 nowhere (d ∷ l) c i others = rw (ne_eqb d c (others 0 (omega arith))) (nowhere l c (suc i) (λ k q. others (suc k) (omega arith)))
 
 module _ (l : List ℕ) (r : rising l ≡ true) (c at : ℕ) (b : AsManyBelow l at c) where
-  pub search_found : at < length l → get_or l at 0 ≡ c → At at ≡ find_in l c 0
-  search_found h e = ap At (sym (zero-add at)) ∙ sym (found_at l c at 0 h (λ k q same. let less = b.first.before k q in omega (arith, less, same)) e)
+  pub search_found : at < length l → get_or l at 0 ≡ c → Some at ≡ find_in l c 0
+  search_found h e = ap Some (sym (zero-add at)) ∙ sym (found_at l c at 0 h (λ k q same. let less = b.first.before k q in omega (arith, less, same)) e)
 
-  pub search_past : length l ≤ at → Absent ≡ find_in l c 0
+  pub search_past : length l ≤ at → None ≡ find_in l c 0
   search_past h = sym (nowhere l c 0 (λ k q same. let less = b.first.before k (omega arith) in omega (arith, less, same)))
 
-  pub search_other : at < length l → get_or l at 0 ≢ c → Absent ≡ find_in l c 0
+  pub search_other : at < length l → get_or l at 0 ≢ c → None ≡ find_in l c 0
   search_other h other = sym (nowhere l c 0 (λ k q same. go k q same (ltb k at) refl (ltb at k) refl))
     where
       go : (k : ℕ) → k < length l → get_or l k 0 ≡ c → (s : Bool) → ltb k at ≡ s → (t : Bool) → ltb at k ≡ t → ⊥
@@ -113,4 +113,4 @@ module _ (l : List ℕ) (r : rising l ≡ true) (c at : ℕ) (b : AsManyBelow l 
 pub find_codes : (es : List Entry) (c i : ℕ) → find_from es c i ≡ find_in (codes_in es) c i
 unfolding find_from find_in codes_in
 find_codes [] c i = refl
-find_codes (e ∷ es) c i = ap (cond (eqb e.code c) (At i)) (find_codes es c (suc i))
+find_codes (e ∷ es) c i = ap (cond (eqb e.code c) (Some i)) (find_codes es c (suc i))

@@ -1,12 +1,10 @@
 -- A search among codes that rise. Assumes nothing.
-use Rattle.std.specs.Prelude.{Bool, cond, ◌&&◌, List, [], ◌∷◌, ℕ, suc, ◌≤◌, ◌<◌, eqb, ltb, length, get_or}
-use Rattle.book.specs.declared.Found.{Found}
-use Rattle.book.specs.declared.Found.TheVariants.{At, Absent}
+use Rattle.std.specs.Prelude.{Bool, cond, ◌&&◌, List, [], ◌∷◌, ℕ, suc, ◌≤◌, ◌<◌, eqb, ltb, length, get_or, Option, Some, None}
 
 -- where a code first stands, the codes counted from i on
-unfoldable pub find_in : List ℕ → ℕ → ℕ → Found
-find_in [] c i = Absent
-find_in (d ∷ codes) c i = cond (eqb d c) (At i) (find_in codes c (suc i))
+unfoldable pub find_in : List ℕ → ℕ → ℕ → Option ℕ
+find_in [] c i = None
+find_in (d ∷ codes) c i = cond (eqb d c) (Some i) (find_in codes c (suc i))
 
 -- one stands at an index and is below a code
 abbrev pub is_below : List ℕ → ℕ → ℕ → Bool

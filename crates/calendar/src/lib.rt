@@ -15,12 +15,11 @@ pub fn leap_year(y: u64) -> bool
 pub fn days_in(m: u64, y: u64) -> u64
     ensures { result ≡ days_in m y }
 {
-    if m == 2 {
-        if leap_year(y) { 29 } else { 28 }
-    } else if (m == 4) | (m == 6) | (m == 9) | (m == 11) {
-        30
-    } else {
-        31
+    match m {
+        2 if leap_year(y) => 29,
+        2 => 28,
+        4 | 6 | 9 | 11 => 30,
+        _ => 31,
     }
 }
 
@@ -41,15 +40,11 @@ pub fn valid_time(n: u64) -> bool
     (n / 10000 <= 23) & (n / 100 % 100 <= 59) & (n % 100 <= 59)
 }
 
-// Whether date a comes before date b in the calendar.
+// Whether date a comes before date b in the calendar: by year, month and day.
 pub fn date_before(a: u64, b: u64) -> bool
     ensures { result ≡ before a b }
 {
-    let month_a = a / 10000 % 100;
-    let month_b = b / 10000 % 100;
-    let in_month = (month_a == month_b) & (a / 1000000 < b / 1000000);
-    let in_year = (a % 10000 == b % 10000) & ((month_a < month_b) | in_month);
-    (a % 10000 < b % 10000) | in_year
+    (a % 10000, a / 10000 % 100, a / 1000000) < (b % 10000, b / 10000 % 100, b / 1000000)
 }
 
 // Whether a date and time, taken together, are later than a second of a day.

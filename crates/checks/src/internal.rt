@@ -16,11 +16,9 @@ ghost use Rattle.checks.specs.Columns.{column_errors, HeadErrors, AllErrors};
 use addresses::{Address, has_address};
 use bids::{any_fine, any_small, any_uneven, count, has_gap, is_over};
 use calendar::moment_later;
-use digits::{Digits, has_number, number_of};
 use envelope::application::{Field, Fields};
 use envelope::internal::bytes_in;
-use errors::internal::with;
-use errors::{Errors, none};
+use errors::Errors;
 use places::{Amount, Places, Rate};
 use terms::{Terms, is_date, is_time};
 use texts::same;
@@ -56,20 +54,20 @@ pub fn sender_errors(e: Errors, sender: Address, admitted: bool) -> Errors
     ensures { ((codes : List ℕ) → admitted ≡ any (eqb (code_in sender)) codes → listed result ≡ listed e ++ sender_errors codes sender) × (result.n ≤ e.n + 1) }
 {
     if has_address(sender) {
-        return with(e, !admitted, 300);
+        return e.with(!admitted, 300);
     }
-    with(e, true, 309)
+    e.with(true, 309)
 }
 
 // The error of a reference date.
-pub fn date_errors(e: Errors, execution: u64, date: Digits) -> Errors
+pub fn date_errors(e: Errors, execution: u64, date: Option<u64>) -> Errors
     requires { e.n < 16 }
     ensures { (listed result ≡ listed e ++ date_errors execution date) × (result.n ≤ e.n + 1) }
 {
     if is_date(date) {
-        return with(e, number_of(date) != execution, 522);
+        return e.with(date.unwrap_or(0) != execution, 522);
     }
-    with(e, true, 502)
+    e.with(true, 502)
 }
 
 // The errors of ten well-formed places, 902 to 907.
@@ -77,16 +75,12 @@ pub fn bid_errors(e: Errors, t: Terms, rates: [Rate; 10], amounts: [Amount; 10])
     requires { e.n ≤ 10 }
     ensures { (listed result ≡ listed e ++ bid_errors (viewed t nobody) (bids_from rates amounts 0 10)) × (result.n ≤ e.n + 6) }
 {
-    let gap = with(e, has_gap(rates, amounts), 902);
-    let many = with(gap, t.most < count(rates, amounts), 903);
-    let fine = with(many, any_fine(rates, amounts), 904);
-    let small = with(fine, any_small(rates, amounts, t.minimum), 905);
-    let uneven = with(
-        small,
-        any_uneven(rates, amounts, t.minimum, t.increment),
-        906,
-    );
-    with(uneven, is_over(rates, amounts, t.maximum), 907)
+    let gap = e.with(has_gap(rates, amounts), 902);
+    let many = gap.with(t.most < count(rates, amounts), 903);
+    let fine = many.with(any_fine(rates, amounts), 904);
+    let small = fine.with(any_small(rates, amounts, t.minimum), 905);
+    let uneven = small.with(any_uneven(rates, amounts, t.minimum, t.increment), 906);
+    uneven.with(is_over(rates, amounts, t.maximum), 907)
 }
 
 // Whether each of ten places is well formed.
@@ -94,10 +88,8 @@ pub fn all_formed(formed: [bool; 10]) -> bool
     ensures { result ≡ all_formed formed }
 {
     let mut ok = true;
-    let mut k = 0;
-    while k < 10 {
-        ok = ok & formed[k];
-        k += 1;
+    for place_formed in formed {
+        ok &= place_formed;
     }
     ok
 }
@@ -113,7 +105,7 @@ pub fn place_errors(e: Errors, t: Terms, p: Places) -> Errors
         let amounts = p.amounts;
         return bid_errors(e, t, rates, amounts);
     }
-    with(e, true, 901)
+    e.with(true, 901)
 }
 
 // The errors of the fields before the places, 900 to 303.
@@ -127,14 +119,14 @@ fn field_errors(m: &[u8], t: Terms, f: Fields, admitted: bool) -> Errors
     let time = f.time;
     let check = f.check;
     let identifier = t.identifier;
-    let first = with(none(), other_type(m), 900);
+    let first = Errors::none().with(other_type(m), 900);
     let second = sender_errors(first, sender, admitted);
-    let third = with(second, other_recipient(m), 599);
-    let fourth = with(third, !has_number(cro), 521);
+    let third = second.with(other_recipient(m), 599);
+    let fourth = third.with(cro.is_none(), 521);
     let fifth = date_errors(fourth, t.execution, date);
-    let sixth = with(fifth, !is_time(time), 503);
-    let seventh = with(sixth, !has_number(check), 908);
-    with(seventh, other_identifier(m, identifier), 303)
+    let sixth = fifth.with(!is_time(time), 503);
+    let seventh = sixth.with(check.is_none(), 908);
+    seventh.with(other_identifier(m, identifier), 303)
 }
 
 // The errors of a readable message with the fields f, received on a day and at a second.
@@ -146,9 +138,5 @@ pub fn errors_of(m: &[u8], t: Terms, f: Fields, admitted: bool, day: u64, second
     let p = f.places;
     let head = field_errors(m, t, f, admitted);
     let places = place_errors(head, t, p);
-    with(
-        places,
-        moment_later(day, second, t.execution, t.cutoff),
-        301,
-    )
+    places.with(moment_later(day, second, t.execution, t.cutoff), 301)
 }

@@ -15,7 +15,7 @@ use Rattle.rules.specs.Allotment.{Bid, no_bid, filled, Offer, is_in, total}
 use Rattle.rules.specs.Cuts.{invests, is_capped, cut_above, left_of_cap, cut_bid, cut_from, cut_bids, cut_book}
 use Rattle.rules.proofs.Cuts.{length-bids}
 use Rattle.bids.specs.Columns.{bids_of}
-use Rattle.bids.proofs.SideBySide.{bid_in, length_of_lem, bid_of_lem, take_of, drop_of, set_of}
+use Rattle.bids.proofs.SideBySide.{set_of}
 use Rattle.cuts.specs.Walked.{walked}
 use Rattle.cuts.proofs.Walked.{left_is}
 
@@ -57,28 +57,17 @@ place_is o cap bs i = go (is_capped o cap)
     go true = cut_at o cap bs [] bs i
     go false = refl
 
--- ten places of a column, as they are lent for the bid at i
-abbrev pub lent : ℕ → List ℕ → List ℕ
-lent i column = take (10 * (i / 10) + 10 - 10 * (i / 10)) (drop (10 * (i / 10)) column)
-
-pub length_lent : (i : ℕ) (column : List ℕ) → 10 * (i / 10) + 10 ≤ length column → length (lent i column) ≡ 10
-length_lent i column h =
-    length-take-le (10 * (i / 10) + 10 - 10 * (i / 10)) (drop (10 * (i / 10)) column) (omega (arith, length-drop (10 * (i / 10)) column)) ∙ omega arith
-
-pub bids_lent : (i : ℕ) (rates amounts : List ℕ) → length rates ≡ length amounts → bids_of (lent i rates) (lent i amounts) ≡ ten_at (i / 10) (bids_of rates amounts)
-bids_lent i rates amounts h =
-    let at = 10 * (i / 10) in
-    take_of (at + 10 - at) (drop at rates) (drop at amounts) ∙ ap₂ (λ (n : ℕ) (l : List Bid). take n l) (let e : at + 10 - at ≡ 10 = omega arith in e) (drop_of at rates amounts h)
-
--- the bid at i, cut among them, is that of the cut book
-pub lent_in_book : (o : Offer) (limits rates amounts : List ℕ) (i : ℕ) → length rates ≡ length amounts → 10 * length limits ≡ length amounts → i < length amounts
-    → get_or (cut_bids o (get_or limits (i / 10) 0) (bids_of (lent i rates) (lent i amounts))) (i - 10 * (i / 10)) no_bid ≡ get_or (cut_book o limits (bids_of rates amounts)) i no_bid
-lent_in_book o limits rates amounts i lengths ten h =
-    let bs = bids_of rates amounts in
+-- the bid at i, cut among the ten places of its limit, is that of the cut book
+pub part_in_book : (o : Offer) (limits : List ℕ) (bs part : List Bid) (i : ℕ) → part ≡ ten_at (i / 10) bs → 10 * length limits ≡ length bs → i < length bs
+    → get_or (cut_bids o (get_or limits (i / 10) 0) part) (i - 10 * (i / 10)) no_bid ≡ get_or (cut_book o limits bs) i no_bid
+part_in_book o limits bs part i is ten h =
     let j = i - 10 * (i / 10) in
-    ap (λ (l : List Bid). get_or (cut_bids o (get_or limits (i / 10) 0) l) j no_bid) (bids_lent i rates amounts lengths)
-    ∙ sym (in_book o limits bs (i / 10) j (omega (arith, length_of_lem rates amounts lengths)) (omega arith) (omega arith))
+    ap (λ (l : List Bid). get_or (cut_bids o (get_or limits (i / 10) 0) l) j no_bid) is
+    ∙ sym (in_book o limits bs (i / 10) j (omega arith) (omega arith) (omega arith))
     ∙ ap (λ (n : ℕ). get_or (cut_book o limits bs) n no_bid) (let e : 10 * (i / 10) + j ≡ i = omega arith in e)
+
+pub length-ten : (k : ℕ) (bs : List Bid) → 10 * k + 10 ≤ length bs → length (ten_at k bs) ≡ 10
+length-ten k bs h = length-take-le 10 (drop (10 * k) bs) (omega (arith, length-drop (10 * k) bs))
 
 -- their total is within the whole
 take_le : (n : ℕ) (bs : List Bid) → total (take n bs) ≤ total bs
@@ -106,15 +95,9 @@ capped_lp : (o : Offer) (cap : ℕ) → is_capped o cap ≡ true → o.side ≡ 
 unfolding is_capped
 capped_lp o cap h = invests_lp o.side (and_left (invests o.side) (not (eqb cap 0)) h)
 
-module _ (o : Offer) (cap : ℕ) (rates amounts : List ℕ) (i : ℕ) (lengths : length rates ≡ length amounts) where
-  abbrev bs : List Bid
-  bs = bids_of rates amounts
-
-  abbrev b : Bid
-  b = bid_in rates amounts i
-
+module _ (o : Offer) (cap : ℕ) (bs : List Bid) (i : ℕ) (b : Bid) (is : b ≡ get_or bs i no_bid) where
   place : get_or (cut_bids o cap bs) i no_bid ≡ cond (is_capped o cap) (cut_bid o cap bs (take i bs) b) b
-  place = place_is o cap bs i ∙ ap (λ (x : Bid). cond (is_capped o cap) (cut_bid o cap bs (take i bs) x) x) (bid_of_lem rates amounts i lengths)
+  place = place_is o cap bs i ∙ ap (λ (x : Bid). cond (is_capped o cap) (cut_bid o cap bs (take i bs) x) x) (sym is)
 
   pub cut_is : (is_capped o cap && is_in o b) ≡ true → cut_above (cap - walked b.rate i 0 bs) b ≡ get_or (cut_bids o cap bs) i no_bid
   unfolding cut_bid

@@ -7,25 +7,30 @@ use native.Mathlib.Numerals.{add-one}
 use native.Mathlib.Omega.{arith}
 use borrow.Author.Tests.{ltb-true, ltb-false, lt-ltb, le-ltb, eqb-true, ne_eqb, not-true}
 use lib.Dec.{ltb, eqb}
-use lib.ListN.{length, take, drop, drop_of_length-le}
+use lib.ListN.{length, take, drop, get_or, drop_of_length-le}
 use Rattle.announcement.specs.declared.Side.{Side}
 use Rattle.announcement.specs.declared.Side.TheVariants.{Lp}
 use Rattle.laws.proofs.Tests.{and_right}
-use Rattle.rules.specs.Allotment.{Bid, filled, Offer, better_rate, is_in, is_better, is_equal, keep, total, total_better, total_equal}
+use Rattle.rules.specs.Allotment.{Bid, no_bid, filled, Offer, better_rate, is_in, is_better, is_equal, keep, total, total_better, total_equal}
 use Rattle.rules.specs.Cuts.{left_of_cap}
 use Rattle.rules.proofs.Kept.{total_cons}
-use Rattle.bids.specs.Columns.{bids_of}
-use Rattle.bids.proofs.SideBySide.{bid_in, drop-bids}
+use Rattle.bids.specs.declared.Bid as declared
+use Rattle.bids.specs.Columns.{viewed}
+use Rattle.bids.proofs.SideBySide.{drop-at}
 use Rattle.cuts.specs.Walked.{walked_before, walked}
 
 -- the bid at j added
-pub walked_more : (r i : ℕ) (rates amounts : List ℕ) (j n a w : ℕ) → length rates ≡ length amounts → j < length amounts
-    → n + walked r i j (drop j (bids_of rates amounts)) ≡ w → a ≡ cond (walked_before r i j (bid_in rates amounts j)) (bid_in rates amounts j).amount 0
-    → n + a + walked r i (j + 1) (drop (j + 1) (bids_of rates amounts)) ≡ w
+pub walked_more : (r i : ℕ) (bs : List Bid) (j n a w : ℕ) (b : declared.Bid) → j < length bs → viewed b ≡ get_or bs j no_bid
+    → n + walked r i j (drop j bs) ≡ w → a ≡ cond (walked_before r i j (viewed b)) b.amount.0 0 → n + a + walked r i (j + 1) (drop (j + 1) bs) ≡ w
 unfolding walked
-walked_more r i rates amounts j n a w e h k g =
-    let rest = drop (j + 1) (bids_of rates amounts) in
-    omega (arith, ap (walked r i j) (drop-bids rates amounts j e h), ap (λ (m : ℕ). walked r i m rest) (add-one j))
+walked_more r i bs j n a w b h is k g =
+    let rest = drop (j + 1) bs in
+    omega (
+      arith,
+      ap (walked r i j) (drop-at bs j h),
+      ap (λ (x : Bid). cond (walked_before r i j x) x.amount 0) is,
+      ap (λ (m : ℕ). walked r i m rest) (add-one j),
+    )
 
 -- at the end it is the whole
 pub walked_end : (r i j : ℕ) (bs : List Bid) → length bs ≤ j → walked r i j (drop j bs) ≡ 0

@@ -2,13 +2,13 @@
 ghost use Rattle.std.specs.Prelude.{◌≡◌, ◌-◌, ◌*◌, ◌<◌, ◌≤◌, length, get_or};
 ghost use Rattle.rules.specs.Allotment.{no_bid, total};
 ghost use Rattle.rules.specs.Cuts.{cut_above, cut_bids, cut_book};
-ghost use Rattle.bids.specs.Columns.{bids_of};
+ghost use Rattle.bids.specs.Columns.{bids_of, bids_in};
 ghost use Rattle.bids.specs.Columns as columns;
 ghost use Rattle.offer.specs.Viewed.{viewed, most_bids};
 ghost use Rattle.cuts.specs.Walked.{walked};
 
 use crate::is_capped;
-use bids::{Bid, less};
+use bids::{Bid, BidColumns};
 use offer::internal::where_holds;
 use offer::{Offer, is_in};
 use places::{Amount, Rate};
@@ -34,36 +34,30 @@ fn cut_above(left: u64, b: Bid) -> Bid
 }
 
 // What a cap leaves to the bid at place i: every place is looked at, so that nothing is sorted.
-fn left_of_cap(cap: u64, rates: &[u32], amounts: &[u64], i: usize) -> u64
-    requires rates_len { length rates.now ≡ length amounts.now }
-    requires i_in_bounds { i < length amounts.now }
-    requires amounts_bound { total (bids_of rates.now amounts.now) ≤ most_bids }
-    ensures { result ≡ cap - walked (get_or rates.now i 0) i 0 (bids_of rates.now amounts.now) }
+fn left_of_cap(cap: u64, bids: BidColumns, i: usize) -> u64
+    requires i_in_bounds { i < length (bids_in bids) }
+    requires amounts_bound { total (bids_in bids) ≤ most_bids }
+    ensures { result ≡ cap - walked (get_or (bids_in bids.entry) i no_bid).rate i 0 (bids_in bids.entry) }
 {
-    let rate = rates[i];
+    let rate = bids.bid(i).rate.0;
     let mut before = 0;
-    let mut j = 0;
-    while j < amounts.len() {
-        let other = rates[j];
-        before += where_holds((rate < other) | ((other == rate) & (j < i)), amounts[j]);
-        j += 1;
+    for j in 0..bids.len() {
+        let b = bids.bid(j);
+        let other = b.rate.0;
+        before += where_holds((rate < other) | ((other == rate) & (j < i)), b.amount.0);
     }
-    less(cap, before)
+    cap.saturating_sub(before)
 }
 
 // One counterparty's bid at place i, cut where its limit cuts.
-fn cut_place(o: Offer, cap: u64, rates: &[u32], amounts: &[u64], i: usize) -> Bid
-    requires rates_len { length rates.now ≡ length amounts.now }
-    requires i_in_bounds { i < length amounts.now }
-    requires amounts_bound { total (bids_of rates.now amounts.now) ≤ most_bids }
-    ensures { columns.viewed result ≡ get_or (cut_bids (viewed o) cap (bids_of rates.now amounts.now)) i no_bid }
+fn cut_place(o: Offer, cap: u64, bids: BidColumns, i: usize) -> Bid
+    requires i_in_bounds { i < length (bids_in bids) }
+    requires amounts_bound { total (bids_in bids) ≤ most_bids }
+    ensures { columns.viewed result ≡ get_or (cut_bids (viewed o) cap (bids_in bids.entry)) i no_bid }
 {
-    let b = Bid {
-        rate: Rate(rates[i]),
-        amount: Amount(amounts[i]),
-    };
+    let b = bids.bid(i);
     if is_capped(o, cap) & is_in(o, b) {
-        return cut_above(left_of_cap(cap, rates, amounts, i), b);
+        return cut_above(left_of_cap(cap, bids, i), b);
     }
     b
 }
@@ -72,31 +66,21 @@ fn cut_place(o: Offer, cap: u64, rates: &[u32], amounts: &[u64], i: usize) -> Bi
 pub fn cut_book(
     o: Offer,
     limits: &[u64],
-    rates: &[u32],
-    amounts: &[u64],
+    bids: BidColumns,
     cut_rates: &mut [u32],
     cut_amounts: &mut [u64],
 )
-    requires rates_len { length rates.now ≡ length amounts.now }
-    requires limits_value { 10 * length limits.now ≡ length amounts.now }
-    requires cut_rates_len { length cut_rates.old ≡ length amounts.now }
-    requires cut_amounts_len { length cut_amounts.old ≡ length amounts.now }
-    requires amounts_bound { total (bids_of rates.now amounts.now) ≤ most_bids }
-    ensures { bids_of cut_rates.new cut_amounts.new ≡ cut_book (viewed o) limits.now (bids_of rates.now amounts.now) }
+    requires limits_value { 10 * length limits.now ≡ length (bids_in bids) }
+    requires cut_rates_len { length cut_rates.old ≡ length (bids_in bids) }
+    requires cut_amounts_len { length cut_amounts.old ≡ length (bids_in bids) }
+    requires amounts_bound { total (bids_in bids) ≤ most_bids }
+    ensures { bids_of cut_rates.new cut_amounts.new ≡ cut_book (viewed o) limits.now (bids_in bids.entry) }
 {
-    let mut i = 0;
-    while i < amounts.len() {
+    for i in 0..bids.len() {
         let k = i / 10;
         let at = 10 * k;
-        let b = cut_place(
-            o,
-            limits[k],
-            &rates[at..at + 10],
-            &amounts[at..at + 10],
-            i - at,
-        );
+        let b = cut_place(o, limits[k], bids.part(at, at + 10), i - at);
         cut_rates[i] = b.rate.0;
         cut_amounts[i] = b.amount.0;
-        i += 1;
     }
 }

@@ -27,10 +27,8 @@ pub fn any_capped(o: Offer, limits: &[u64]) -> bool
     ensures { result ≡ any (is_capped (viewed o)) limits.now }
 {
     let mut found = false;
-    let mut k = 0;
-    while k < limits.len() {
-        found = found | is_capped(o, limits[k]);
-        k += 1;
+    for limit in limits {
+        found |= is_capped(o, *limit);
     }
     found
 }

@@ -11,7 +11,7 @@ use lib.ListN.{length, drop, get_or, drop_of_length-le}
 use lib.Seq.{drop-cons}
 use borrow.Author.Tests.{leb-true}
 use Rattle.laws.proofs.Tests.{and_left, and_right}
-use Rattle.digits.specs.declared.Digits.TheVariants.{Number, None}
+use Rattle.std.proofs.Common.{Some, None}
 use Rattle.digits.specs.Decimal.{is_digit, all_digits, number_from, number_of, digits_of}
 
 pub digit_range : (b : ℕ) → is_digit b ≡ true → (48 ≤ b) × (b ≤ 57)
@@ -27,7 +27,7 @@ module _ (b : ℕ) (s : List ℕ) (h : all_digits (b ∷ s) ≡ true) where
   rest_digits = and_right (is_digit b) (all_digits s) h
 
 -- what a field of digits holds, by its test
-pub number_is : (s : List ℕ) → all_digits s ≡ true → digits_of s ≡ Number (number_of s)
+pub number_is : (s : List ℕ) → all_digits s ≡ true → digits_of s ≡ Some (number_of s)
 unfolding digits_of
 number_is s h = rw h
 
@@ -35,20 +35,18 @@ pub none_is : (s : List ℕ) → all_digits s ≡ false → digits_of s ≡ None
 unfolding digits_of
 none_is s h = rw h
 
-pub is_number_lem : (s : List ℕ) (n : ℕ) → digits_of s ≡ Number n → (all_digits s ≡ true) × (number_of s ≡ n)
+pub is_number_lem : (s : List ℕ) (n : ℕ) → digits_of s ≡ Some n → (all_digits s ≡ true) × (number_of s ≡ n)
 unfolding digits_of
 is_number_lem s n h = go (all_digits s) refl
   where
     go : (t : Bool) → all_digits s ≡ t → (all_digits s ≡ true) × (number_of s ≡ n)
-    go true e = (e, let q : Number (number_of s) ≡ Number n = sym (ap (λ (b : Bool). cond b (Number (number_of s)) None) e) ∙ h in (cc))
-    go false e = absurd (let q : None ≡ Number n = sym (ap (λ (b : Bool). cond b (Number (number_of s)) None) e) ∙ h in let z : ◌≡◌ {A = ℕ} 0 1 = cc in omega arith)
+    go true e = (e, let q : Some (number_of s) ≡ Some n = sym (ap (λ (b : Bool). cond b (Some (number_of s)) None) e) ∙ h in (cc))
+    go false e = absurd (let q : None ≡ Some n = sym (ap (λ (b : Bool). cond b (Some (number_of s)) None) e) ∙ h in let z : ◌≡◌ {A = ℕ} 0 1 = cc in omega arith)
 
 -- the loop over the test: one more byte, and the end
-pub test_more : (ok : Bool) (s : List ℕ) (i : ℕ) → i < length s → ((ok && leb 48 (get_or s i 0) && leb (get_or s i 0) 57) && all_digits (drop (i + 1) s)) ≡ (ok && all_digits (drop i s))
+pub test_more : (ok : Bool) (s : List ℕ) (i : ℕ) → i < length s → ((ok && is_digit (get_or s i 0)) && all_digits (drop (i + 1) s)) ≡ (ok && all_digits (drop i s))
 unfolding all_digits
-test_more ok s i h =
-    rw (drop-cons s i 0 h, add-one)
-    (ap (λ (x : Bool). x && all_digits (drop (suc i) s)) (and_assoc ok (leb 48 (get_or s i 0)) (leb (get_or s i 0) 57)) ∙ and_assoc ok (is_digit (get_or s i 0)) (all_digits (drop (suc i) s)))
+test_more ok s i h = rw (drop-cons s i 0 h, add-one) (and_assoc ok (is_digit (get_or s i 0)) (all_digits (drop (suc i) s)))
 
 pub test_end : (ok : Bool) (s : List ℕ) (i : ℕ) → length s ≤ i → (ok && all_digits (drop i s)) ≡ ok
 unfolding all_digits

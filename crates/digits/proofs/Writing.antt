@@ -9,7 +9,7 @@ use lib.Dec.{lit<}
 use lib.ListN.{length, drop, set, length-append, length-set}
 use lib.Seq.{drop-cons, drop_at, get_or-set_same, drop-set-lt}
 use borrow.Author.Tests.{le-leb}
-use Rattle.digits.specs.declared.Digits.TheVariants.{Number}
+use Rattle.std.proofs.Common.{Some}
 use Rattle.digits.specs.Decimal.{all_digits, number_from, number_of, digits}
 use Rattle.digits.specs.Theorems.{ReadWritten, NumberWritten}
 use Rattle.digits.proofs.Reading.{digit_range, first_digit, rest_digits, number_is, is_number_lem, number_join, digits_join}
@@ -83,7 +83,7 @@ written-number (suc w) n h =
 
 -- the return trip: a number that fits its width, written, reads back
 pub read-written : ReadWritten
-read-written w n h = number_is (digits w n) (written-digits w n) ∙ ap Number (written-number w n h)
+read-written w n h = number_is (digits w n) (written-digits w n) ∙ ap Some (written-number w n h)
 
 again : (k a : ℕ) (s : List ℕ) → all_digits s ≡ true → digits (k + length s) (number_from a s) ≡ digits k a ++ s
 unfolding digits number_from

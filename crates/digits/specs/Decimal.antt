@@ -1,7 +1,5 @@
 -- Numbers as decimal digits in ASCII (document 01, 'Envelope'). Assumes nothing.
-use Rattle.std.specs.Prelude.{Bool, true, false, cond, ◌&&◌, List, [], ◌∷◌, ◌++◌, ℕ, zero, suc, ◌+◌, ◌*◌, ◌-◌, ◌/◌, ◌%◌, leb}
-use Rattle.digits.specs.declared.Digits.{Digits}
-use Rattle.digits.specs.declared.Digits.TheVariants.{Number, None}
+use Rattle.std.specs.Prelude.{Bool, true, false, cond, ◌&&◌, List, [], ◌∷◌, ◌++◌, ℕ, zero, suc, ◌+◌, ◌*◌, ◌-◌, ◌/◌, ◌%◌, leb, Option, Some, None, is_some, unwrap_or}
 
 -- 'compared as ASCII': a digit is a byte from 48, '0', to 57, '9'
 abbrev pub is_digit : ℕ → Bool
@@ -20,17 +18,18 @@ abbrev pub number_of : List ℕ → ℕ
 number_of s = number_from 0 s
 
 -- 'for a digit field .. its number .., or that it has none'
+abbrev pub Digits : Type 0
+Digits = Option ℕ
+
 unfoldable pub digits_of : List ℕ → Digits
-digits_of s = cond (all_digits s) (Number (number_of s)) None
+digits_of s = cond (all_digits s) (Some (number_of s)) None
 
 -- whether there is a number, and the number, 0 where there is none
 abbrev pub is_number : Digits → Bool
-is_number None = false
-is_number (Number n) = true
+is_number d = is_some d
 
 abbrev pub number_in : Digits → ℕ
-number_in None = 0
-number_in (Number n) = n
+number_in d = unwrap_or d 0
 
 -- a number written as w digits
 unfoldable pub digits : ℕ → ℕ → List ℕ

@@ -4,14 +4,7 @@ ghost use Rattle.std.specs.Prelude.{◌≡◌, true, ◌+◌, ◌<◌, ◌≤◌
 ghost use Rattle.output.specs.Output.{Wrote};
 ghost use Rattle.digits.specs.Decimal.{all_digits, number_of, digits_of, digits};
 
-use crate::{Digits, all_digits};
-
-// A byte as a number.
-pub fn wide(b: u8) -> u64
-    ensures { (result ≡ b) × (result < 256) }
-{
-    b as u64
-}
+use crate::all_digits;
 
 // The number that digits make.
 fn value(s: &[u8]) -> u64
@@ -19,37 +12,29 @@ fn value(s: &[u8]) -> u64
     requires s_value { all_digits s.now ≡ true }
     ensures { result ≡ number_of s.now }
 {
-    let mut n: u64 = 0;
-    let mut i = 0;
-    while i < s.len() {
-        n = n * 10 + wide(s[i] - 48);
-        i += 1;
+    let mut n = 0;
+    for &b in s {
+        n = n * 10 + u64::from(b - b'0');
     }
     n
 }
 
 // What a field of digits holds. The bytes are tested first, so that the value is plain arithmetic.
-pub fn number(s: &[u8]) -> Digits
+pub fn number(s: &[u8]) -> Option<u64>
     requires { length s.now ≤ 19 }
     ensures { result ≡ digits_of s.now }
 {
-    if all_digits(s) {
-        Digits::Number(value(s))
-    } else {
-        Digits::None
-    }
+    if all_digits(s) { Some(value(s)) } else { None }
 }
 
 // Writes the last digits of n over the whole of a part.
 fn fill(part: &mut [u8], n: u64)
     ensures { part.new ≡ digits (length part.old) n }
 {
-    let mut i = part.len();
     let mut rest = n;
-    while 0 < i {
-        i -= 1;
-        part[i] = 48 + (rest % 10) as u8;
-        rest = rest / 10;
+    for i in (0..part.len()).rev() {
+        part[i] = b'0' + (rest % 10) as u8;
+        rest /= 10;
     }
 }
 

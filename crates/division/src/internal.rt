@@ -13,17 +13,14 @@ fn times(t: u64, e: u64) -> u64
     requires e_bound { e < 10 ^ 18 }
     ensures { result ≡ t / e }
 {
-    (e <= t) as u64 + (2 * e <= t) as u64
+    u64::from(e <= t) + u64::from(2 * e <= t)
 }
 
 // One of two numbers that are both computed already, so that the choice needs no branch.
 fn chosen(condition: bool, a: u64, b: u64) -> u64
     ensures { result ≡ (if condition then a else b) }
 {
-    if condition {
-        return a;
-    }
-    b
+    if condition { a } else { b }
 }
 
 // What of t is left when e is taken out of it as often as it goes in. Whether it goes in once is asked as
@@ -62,13 +59,12 @@ pub fn divide(a: Amount, m: Amount, e: Amount) -> Division
     requires e_bound { e.0 < 10 ^ 18 }
     ensures { viewed result ≡ division a.0 m.0 e.0 }
 {
-    let length = binary_length(a);
     let mut d = Division {
         quotient: Amount(0),
         remainder: Amount(0),
         count: 0,
     };
-    while d.count < length {
+    for _ in 0..binary_length(a) {
         d = round(d, a, m, e);
     }
     d

@@ -10,10 +10,7 @@ use places::Amount;
 fn given_award(minimum: Amount, award: u64) -> u64
     ensures { (result ≡ given_award minimum.0 award) × (result ≤ award) }
 {
-    if award < minimum.0 {
-        return 0;
-    }
-    award
+    if award < minimum.0 { 0 } else { award }
 }
 
 // Drops what is below the minimum.
@@ -22,13 +19,10 @@ fn drop_below(minimum: Amount, awards: &mut [u64]) -> Amount
     ensures { Drops minimum.0 awards.old result awards.new }
 {
     let mut dropped = 0;
-    let mut i = 0;
-    while i < awards.len() {
-        let award = awards[i];
-        let given = given_award(minimum, award);
-        awards[i] = given;
-        dropped += award - given;
-        i += 1;
+    for award in awards.iter_mut() {
+        let given = given_award(minimum, *award);
+        dropped += *award - given;
+        *award = given;
     }
     Amount(dropped)
 }

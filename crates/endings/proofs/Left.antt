@@ -5,13 +5,13 @@ use mathlib.Core.List.{List, ◌++◌}
 use Prim.Native.Nat.{ℕ, zero, suc, ◌+◌, ◌-◌, ◌≤◌}
 use native.Mathlib.Nat.{add-zero}
 use native.Mathlib.Omega.{arith}
-use lib.ListN.{length, take, drop, get_or, length-drop}
+use lib.ListN.{length, take, drop, get_or}
 use lib.Seq.{get_or-drop, drop-drop}
 use borrow.Author.Tests.{le-leb}
 use Rattle.laws.proofs.Tests.{and_left}
 use Rattle.layout.specs.Fields.{length_at}
 use Rattle.log_rules.specs.Steps.{tag_of, content_of, after_field, holds_field}
-use Rattle.log_rules.proofs.Walks.{no_head, with_head, held_whole, after_shorter, tag-before, content-before, after-before, held-before}
+use Rattle.log_rules.proofs.Walks.{no_head, with_head, after_shorter, tag-before, content-before, after-before, held-before}
 use Rattle.endings.specs.Endings.{ends_log, goes_on, left_after, left_of, LeftEnds}
 
 module _ (s : List ℕ) where
@@ -93,12 +93,6 @@ module _ (input : List ℕ) (at : ℕ) where
       let tag : get_or input at 0 ≡ tag_of s = sym (get_or-drop at input 0 0 ∙ ap (λ (i : ℕ). get_or input i 0) (add-zero at)) in
       ap not (ap₂ ends_log tag (ap₂ (λ (i : ℕ) (x : List ℕ). take i x) k (sym (drop-drop 3 at input))))
       ∙ sym (ap (λ (b : Bool). b && not (ends_log (tag_of s) (content_of s))) held)
-
-  pub held_at_lem : at ≤ length input → goes_on (drop at input) ≡ true → at + 3 + length_at (drop at input) ≤ length input
-  held_at_lem l h =
-      let w = held_whole (drop at input) (goes_held (drop at input) h) in
-      let d = length-drop at input in
-      omega (arith, w, d)
 
   pub left_next_at : (n : ℕ) → n ≡ length_at (drop at input) → goes_on (drop at input) ≡ true → left_of (drop (at + 3 + n) input) ≡ left_of (drop at input)
   left_next_at n e h =

@@ -4,7 +4,8 @@
 pub mod internal;
 mod text;
 
-ghost use Rattle.std.specs.Prelude.{◌≡◌, ◌≤◌, length, drop};
+ghost use Rattle.std.specs.Prelude.{◌≡◌, ◌+◌, ◌≤◌, length, drop, is_some, IfSome};
+ghost use Rattle.layout.specs.Fields.{length_at};
 ghost use Rattle.endings.specs.Endings.{ends_log, goes_on, left_of};
 
 use digits::all_digits;
@@ -25,19 +26,23 @@ pub fn ends_log(tag: u8, s: &[u8]) -> bool
     }
 }
 
-// Whether a whole field starts at an index, past which the log goes on.
-fn goes_on(input: &[u8], at: usize) -> bool
+// The index past the whole field that starts at an index, if the log goes on there.
+fn past_field(input: &[u8], at: usize) -> Option<usize>
     requires { at ≤ length input.now }
-    ensures { result ≡ goes_on (drop at input.now) }
+    ensures whether { is_some result ≡ goes_on (drop at input.now) }
+    ensures end { IfSome result (λ end. (end ≡ at + 3 + length_at (drop at input.now)) × (end ≤ length input.now)) }
 {
     if input.len() - at < 3 {
-        return false;
+        return None;
     }
     let end = at + 3 + length_at(input, at);
     if input.len() < end {
-        return false;
+        return None;
     }
-    !ends_log(input[at], &input[at + 3..end])
+    if ends_log(input[at], &input[at + 3..end]) {
+        return None;
+    }
+    Some(end)
 }
 
 // The index from which on the input is left: that of the first field that is not whole or ends the log.
@@ -45,8 +50,9 @@ pub fn left_at(input: &[u8]) -> usize
     ensures { (drop result input.now ≡ left_of input.now) × (result ≤ length input.now) }
 {
     let mut at = 0;
-    while goes_on(input, at) {
-        at = at + 3 + length_at(input, at);
+    // A while, since there is no index to count: it goes on while there is a next field.
+    while let Some(end) = past_field(input, at) {
+        at = end;
     }
     at
 }

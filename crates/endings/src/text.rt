@@ -1,24 +1,24 @@
 // Numbers and tags written into a lent space.
-ghost use Rattle.std.specs.Prelude.{◌≡◌, ◌+◌, ◌≤◌, ◌<◌, length, drop};
+ghost use Rattle.std.specs.Prelude.{◌≡◌, ◌+◌, ◌≤◌, ◌<◌, ◌==◌, not, position, length, drop};
 ghost use Rattle.output.specs.Output.{Wrote};
 ghost use Rattle.endings.specs.Endings.{no_zeros, decimal, hex_digit, hex_text};
 
 use digits::internal::put_digits;
 use output::internal::{put, put_byte};
 
+// The index of the first digit that is no zero.
+fn first_other(s: &[u8]) -> Option<usize>
+    ensures { result ≡ position (λ b. not (b == 48)) s.now }
+{
+    s.iter().position(|&b| b != b'0')
+}
+
 // The index past the zeros in front; the last digit stays.
 fn past_zeros(s: &[u8]) -> usize
     requires { 0 < length s.now }
     ensures { (drop result s.now ≡ no_zeros s.now) × (result < length s.now) }
 {
-    let mut i = 0;
-    while i + 1 < s.len() {
-        if s[i] != b'0' {
-            return i;
-        }
-        i += 1;
-    }
-    i
+    first_other(s).unwrap_or(s.len() - 1)
 }
 
 // Writes a number in decimal digits without zeros in front.

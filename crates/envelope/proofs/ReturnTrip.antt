@@ -10,8 +10,8 @@ use lib.ListN.{length, take, drop, get_or}
 use lib.Seq.{take_at}
 use borrow.Author.Tests.{ltb-true, lt-ltb, le-ltb, eq-eqb}
 use Rattle.laws.proofs.Tests.{and_left, and_right}
-use Rattle.digits.specs.declared.Digits.{Digits}
-use Rattle.digits.specs.declared.Digits.TheVariants.{Number, None}
+use Rattle.digits.specs.Decimal.{Digits}
+use Rattle.std.proofs.Common.{Some, None}
 use Rattle.digits.specs.Decimal.{digits, digits_of, is_number, number_in}
 use Rattle.digits.proofs.Reading.{is_number_lem, number_below}
 use Rattle.digits.proofs.Writing.{length_digits, read-written, number-written}
@@ -74,7 +74,7 @@ module _ (a : Application) (kind identifier name : List ℕ) (ten : TenPlaces a)
   content-written k l = content-encoded layout6_g1 (texts a kind identifier name) refl permitted k l
 
   -- the number in a field of w digits reads back
-  number_back : (f : Field) (w n : ℕ) → position f < 10 → get_or (texts a kind identifier name) (position f) [] ≡ digits w n → fits w n ≡ true → digits_of (bytes_of f (written a kind identifier name)) ≡ Number n
+  number_back : (f : Field) (w n : ℕ) → position f < 10 → get_or (texts a kind identifier name) (position f) [] ≡ digits w n → fits w n ≡ true → digits_of (bytes_of f (written a kind identifier name)) ≡ Some n
   number_back f w n l e h = ap digits_of (content-written (position f) l ∙ e) ∙ read-written w n (ltb-true n (10 ^ w) h)
 
   fields_written : fields_of (written a kind identifier name) ≡ fields_from a
@@ -147,9 +147,9 @@ module _ (m : List ℕ) (f : Fields) (h : reading m ≡ (none, f)) where
   bytes_are g = rw read-accepted
 
 -- a digit field that is digits
-number_in_lem : (d : Digits) → is_number d ≡ true → d ≡ Number (number_in d)
+number_in_lem : (d : Digits) → is_number d ≡ true → d ≡ Some (number_in d)
 number_in_lem None h = absurd (false≢true h)
-number_in_lem (Number n) h = refl
+number_in_lem (Some n) h = refl
 
 module _ (m : List ℕ) (g : Field) {w : ℕ} (l : length (bytes_of g m) ≡ w) (h : is_number (digits_of (bytes_of g m)) ≡ true) where
   field_fits : fits w (number_in (digits_of (bytes_of g m))) ≡ true

@@ -1,7 +1,6 @@
 -- The 6G1 (document 01, 'Envelope', 'Replies and writing'). Assumes nothing.
-use Rattle.std.specs.Prelude.{Bool, cond, not, ◌&&◌, List, [], ◌∷◌, ◌++◌, ℕ, eqb, ltb, length, take, drop, get_or, replicate}
+use Rattle.std.specs.Prelude.{Bool, cond, not, ◌&&◌, List, [], ◌∷◌, ◌++◌, ℕ, eqb, ltb, length, take, drop, get_or, replicate, None, Result, Ok, Err}
 use Rattle.std.proofs.Math.Option.{Option, none, some}
-use Rattle.digits.specs.declared.Digits.TheVariants.{None}
 use Rattle.digits.specs.Decimal.{all_digits, digits_of, digits}
 use Rattle.layout.specs.Fields.{FieldEntry, readable, content, encoded}
 use Rattle.addresses.specs.declared.Address.TheVariants.{Malformed}
@@ -11,11 +10,10 @@ use Rattle.envelope.specs.Refusals.{first_holding, unless_refused}
 use Rattle.envelope.specs.declared.application.Field.{Field}
 use Rattle.envelope.specs.declared.application.Field.TheVariants.{MessageType, Sender, Recipient, Cro, Date, Time, Check, Identifier, Bids, Name}
 use Rattle.envelope.specs.declared.application.Fields.{Fields}
-use Rattle.envelope.specs.declared.application.ReadAnswer.{ReadAnswer}
-use Rattle.envelope.specs.declared.application.ReadAnswer.TheVariants.{Readable, Unreadable}
+use Rattle.envelope.specs.declared.application.Unreadable.{Unreadable}
 use Rattle.envelope.specs.declared.application.Application.{Application}
-use Rattle.envelope.specs.declared.application.WriteAnswer.{WriteAnswer}
-use Rattle.envelope.specs.declared.application.WriteAnswer.TheVariants.{Written, Unfit, NoRoom}
+use Rattle.envelope.specs.declared.application.WriteRefusal.{WriteRefusal}
+use Rattle.envelope.specs.declared.application.WriteRefusal.TheVariants.{Unfit, NoRoom}
 
 -- an entry of a field that has one length
 abbrev pub one : ℕ → ℕ → FieldEntry
@@ -105,10 +103,14 @@ reading_refused m = first_holding ((12, unreadable m) ∷ [])
 unfoldable pub reading : List ℕ → Option ℕ × Fields
 reading m = (reading_refused m, unless_refused (reading_refused m) no_fields (fields_of m))
 
--- the numbers of the answers
-abbrev pub read_refusal : ReadAnswer → Option ℕ
-read_refusal Readable = none
-read_refusal Unreadable = some 12
+-- the numbers of the answers, and what a refused reading gives
+abbrev pub read_refusal : Result Fields Unreadable → Option ℕ
+read_refusal (Ok f) = none
+read_refusal (Err e) = some 12
+
+abbrev pub fields_in : Result Fields Unreadable → Fields
+fields_in (Ok f) = f
+fields_in (Err e) = no_fields
 
 -- 'operation identifier `T/yyyy/nnnn` (70, 11; y and n any digits)'
 unfoldable pub is_identifier : List ℕ → Bool
@@ -160,7 +162,7 @@ write a kind identifier name space = (
   unless_refused (writing_refused a kind identifier name space) space (written a kind identifier name ++ drop (length (written a kind identifier name)) space),
 )
 
-abbrev pub write_refusal : WriteAnswer → Option ℕ
-write_refusal Written = none
-write_refusal Unfit = some 17
-write_refusal NoRoom = some 18
+abbrev pub write_refusal : {A : Type 0} → Result A WriteRefusal → Option ℕ
+write_refusal (Ok a) = none
+write_refusal (Err Unfit) = some 17
+write_refusal (Err NoRoom) = some 18

@@ -1,7 +1,7 @@
 -- The return trip (demand 2): what was written reads back, and what was read is written as it was. Assumes nothing.
 use Rattle.std.specs.Prelude.{◌≡◌, Bool, true, ◌&&◌, List, ◌++◌, ℕ, ◌≤◌, length, take, drop, replicate}
 use Rattle.std.proofs.Math.Option.{none}
-use Rattle.digits.specs.declared.Digits.TheVariants.{Number}
+use Rattle.std.specs.Prelude.{Some}
 use Rattle.digits.specs.Decimal.{is_number, number_in}
 use Rattle.addresses.specs.Addresses.{is_address}
 use Rattle.places.specs.Bids.{all_formed}
@@ -16,10 +16,10 @@ fields_from a =
     record {
       sender = a.sender;
       recipient = a.recipient;
-      cro = Number a.cro;
-      date = Number a.date;
-      time = Number a.time;
-      check = Number a.check;
+      cro = Some a.cro;
+      date = Some a.date;
+      time = Some a.time;
+      check = Some a.check;
       places = record { formed = replicate 10 true; rates = a.rates; amounts = a.amounts };
     }
 

@@ -5,13 +5,13 @@ ghost use Rattle.digits.specs.Decimal.{digits};
 ghost use Rattle.layout.specs.Fields.{field, readable};
 ghost use Rattle.addresses.specs.Addresses.{address_text, address_length, address_fits};
 ghost use Rattle.places.specs.Bids.{places_text, places_fit};
-ghost use Rattle.envelope.specs.Application.{layout6_g1, field_bytes, fields_of, no_fields, read_refusal, reading, is_identifier, numbers_fit, texts_fit, write_refusal, write};
+ghost use Rattle.envelope.specs.Application.{layout6_g1, field_bytes, fields_of, no_fields, read_refusal, fields_in, reading, is_identifier, numbers_fit, texts_fit, write_refusal, write};
 ghost use Rattle.envelope.specs.Writing.{first_fields, last_fields};
 
 use crate::internal::{bytes_in, check_of, cro_of, date_of, recipient_of, sender_of, time_of};
 use addresses::internal::put_after_code;
 use addresses::{Address, address_fits, address_length, code_of};
-use digits::{Digits, all_digits};
+use digits::all_digits;
 use layout::internal::{put_field, put_head};
 use places::internal::{put_places, read_places};
 use places::{Amount, Places, Rate, places_fit};
@@ -37,24 +37,16 @@ pub enum Field {
 pub struct Fields {
     pub sender: Address,
     pub recipient: Address,
-    pub cro: Digits,
-    pub date: Digits,
-    pub time: Digits,
-    pub check: Digits,
+    pub cro: Option<u64>,
+    pub date: Option<u64>,
+    pub time: Option<u64>,
+    pub check: Option<u64>,
     pub places: Places,
 }
 
+// A message that is no 6G1.
 #[derive(Clone, Copy)]
-pub enum ReadAnswer {
-    Readable,
-    Unreadable,
-}
-
-#[derive(Clone, Copy)]
-pub struct Reading {
-    pub answer: ReadAnswer,
-    pub fields: Fields,
-}
+pub struct Unreadable;
 
 // The addresses and numbers that a 6G1 is written from.
 #[derive(Clone, Copy)]
@@ -69,9 +61,9 @@ pub struct Application {
     pub amounts: [Amount; 10],
 }
 
+// Why a 6G1 is not written: a number or a text does not fit its field, or the space is too short.
 #[derive(Clone, Copy)]
-pub enum WriteAnswer {
-    Written,
+pub enum WriteRefusal {
     Unfit,
     NoRoom,
 }
@@ -138,10 +130,10 @@ pub fn no_fields() -> Fields
     Fields {
         sender: Address::Malformed,
         recipient: Address::Malformed,
-        cro: Digits::None,
-        date: Digits::None,
-        time: Digits::None,
-        check: Digits::None,
+        cro: None,
+        date: None,
+        time: None,
+        check: None,
         places: Places {
             formed: [false; 10],
             rates: [Rate(0); 10],
@@ -151,19 +143,13 @@ pub fn no_fields() -> Fields
 }
 
 // Reads a 6G1, or refuses what is none and gives no numbers.
-pub fn read(m: &[u8]) -> Reading
-    ensures { (read_refusal result.answer, result.fields) ≡ reading m.now }
+pub fn read(m: &[u8]) -> Result<Fields, Unreadable>
+    ensures { (read_refusal result, fields_in result) ≡ reading m.now }
 {
     if is_6g1(m) {
-        Reading {
-            answer: ReadAnswer::Readable,
-            fields: fields_of(m),
-        }
+        Ok(fields_of(m))
     } else {
-        Reading {
-            answer: ReadAnswer::Unreadable,
-            fields: no_fields(),
-        }
+        Err(Unreadable)
     }
 }
 
@@ -289,18 +275,18 @@ pub fn write(
     identifier: &[u8],
     name: &[u8],
     space: &mut [u8],
-) -> WriteAnswer
+) -> Result<(), WriteRefusal>
     ensures { (write_refusal result, space.new) ≡ write a kind.now identifier.now name.now space.old }
 {
     if !(numbers_fit(a) & texts_fit(kind, identifier, name)) {
-        return WriteAnswer::Unfit;
+        return Err(WriteRefusal::Unfit);
     }
     let from = a.sender;
     let to = a.recipient;
     if space.len() < 329 + address_length(from) + address_length(to) {
-        return WriteAnswer::NoRoom;
+        return Err(WriteRefusal::NoRoom);
     }
     let half = put_first(space, a, kind);
     put_last(space, half, a, identifier, name);
-    WriteAnswer::Written
+    Ok(())
 }

@@ -10,7 +10,6 @@ ghost use Rattle.envelope.specs.Application.{entry_of, layout6_g1, position, byt
 use crate::application::Field;
 use addresses::internal::address_at;
 use addresses::{Address, code_digits};
-use digits::Digits;
 use layout::internal::{contents, length_at};
 use places::Place;
 use places::internal::read_place;
@@ -83,7 +82,7 @@ pub fn bytes_in(m: &[u8], f: Field) -> &[u8]
 }
 
 // The number in its CRO.
-pub fn cro_of(m: &[u8]) -> Digits
+pub fn cro_of(m: &[u8]) -> Option<u64>
     requires { readable layout6_g1 m.now ≡ true }
     ensures { result ≡ digits_of (bytes_of Cro m.now) }
 {
@@ -92,7 +91,7 @@ pub fn cro_of(m: &[u8]) -> Digits
 }
 
 // The number in its reference date.
-pub fn date_of(m: &[u8]) -> Digits
+pub fn date_of(m: &[u8]) -> Option<u64>
     requires { readable layout6_g1 m.now ≡ true }
     ensures { result ≡ digits_of (bytes_of Date m.now) }
 {
@@ -101,7 +100,7 @@ pub fn date_of(m: &[u8]) -> Digits
 }
 
 // The number in its reference time.
-pub fn time_of(m: &[u8]) -> Digits
+pub fn time_of(m: &[u8]) -> Option<u64>
     requires { readable layout6_g1 m.now ≡ true }
     ensures { result ≡ digits_of (bytes_of Time m.now) }
 {
@@ -110,7 +109,7 @@ pub fn time_of(m: &[u8]) -> Digits
 }
 
 // The number in its check digit.
-pub fn check_of(m: &[u8]) -> Digits
+pub fn check_of(m: &[u8]) -> Option<u64>
     requires { readable layout6_g1 m.now ≡ true }
     ensures { result ≡ digits_of (bytes_of Check m.now) }
 {
@@ -165,7 +164,7 @@ pub fn sender_code(m: &[u8]) -> &[u8]
 
 // The code of its sender, as what a digit field holds. Where both addresses are short it is read at one
 // index, which is faster.
-pub fn sender_digits(m: &[u8]) -> Digits
+pub fn sender_digits(m: &[u8]) -> Option<u64>
     requires { readable layout6_g1 m.now ≡ true }
     ensures { result ≡ code_digits (address_of (bytes_of Sender m.now)) }
 {
@@ -176,7 +175,7 @@ pub fn sender_digits(m: &[u8]) -> Digits
 }
 
 // The code of its recipient, in the same way.
-pub fn recipient_digits(m: &[u8]) -> Digits
+pub fn recipient_digits(m: &[u8]) -> Option<u64>
     requires { readable layout6_g1 m.now ≡ true }
     ensures { result ≡ code_digits (address_of (bytes_of Recipient m.now)) }
 {

@@ -1,7 +1,7 @@
 // Long forms of sender and recipient: written, read back, and with a byte out of place.
 use crate::message;
 use addresses::Address;
-use envelope::application::{read, write};
+use envelope::application::{no_fields, read, write};
 use std::io;
 
 // A branch of the sender.
@@ -30,7 +30,7 @@ fn address(rt: &impl Print, a: Address) -> io::Result<()> {
 
 // The sender and the recipient of a message.
 fn both(rt: &impl Print, m: &[u8]) -> io::Result<()> {
-    let f = read(m).fields;
+    let f = read(m).unwrap_or(no_fields());
     let from = f.sender;
     let to = f.recipient;
     address(rt, from)?;

@@ -2,8 +2,7 @@
 ghost use Rattle.std.specs.Prelude.{◌+◌, ◌≤◌, length};
 
 use addresses::Address;
-use digits::Digits;
-use envelope::application::{Application, ReadAnswer, WriteAnswer, read};
+use envelope::application::{Application, Unreadable, WriteRefusal, read};
 use places::{Amount, Rate};
 
 pub fn bytes() -> [u8; 339] {
@@ -35,11 +34,7 @@ pub fn of_nines() -> [u8; 339] {
 fn put(m: &mut [u8; 339], at: usize, text: &[u8])
     requires { at + length text.now ≤ 339 }
 {
-    let mut i = 0;
-    while i < text.len() {
-        m[at + i] = text[i];
-        i += 1;
-    }
+    m[at..at + text.len()].copy_from_slice(text);
 }
 
 // The message with another byte at an index.
@@ -93,28 +88,27 @@ pub fn between(sender: Address, recipient: Address) -> Application {
 }
 
 // The number of a short address; the other forms have none here.
-pub fn code(a: Address) -> Digits {
+pub fn code(a: Address) -> Option<u64> {
     match a {
-        Address::Malformed => Digits::None,
-        Address::Code(n) => Digits::Number(n),
-        Address::Branch(_, _, _, _) => Digits::None,
+        Address::Malformed => None,
+        Address::Code(n) => Some(n),
+        Address::Branch(_, _, _, _) => None,
     }
 }
 
 // The number with which reading m is refused, 0 where it is not.
 pub fn refusal(m: &[u8]) -> u64 {
-    let answer = read(m).answer;
-    match answer {
-        ReadAnswer::Readable => 0,
-        ReadAnswer::Unreadable => 12,
+    match read(m) {
+        Ok(_) => 0,
+        Err(Unreadable) => 12,
     }
 }
 
 // The number with which writing was refused, 0 where it was not.
-pub fn refused(answer: WriteAnswer) -> u64 {
+pub fn refused(answer: Result<(), WriteRefusal>) -> u64 {
     match answer {
-        WriteAnswer::Written => 0,
-        WriteAnswer::Unfit => 17,
-        WriteAnswer::NoRoom => 18,
+        Ok(()) => 0,
+        Err(WriteRefusal::Unfit) => 17,
+        Err(WriteRefusal::NoRoom) => 18,
     }
 }

@@ -2,8 +2,7 @@
 ghost use Rattle.std.specs.Prelude.{◌≤◌};
 
 use crate::message;
-use digits::Digits;
-use envelope::application::{Fields, read};
+use envelope::application::{Fields, no_fields, read};
 use places::{Amount, Rate};
 use std::io;
 
@@ -16,7 +15,7 @@ const LAST: [usize; 6] = [13, 21, 35, 46, 55, 63];
 const OTHER: [u8; 5] = [32, 178, 0, 47, 58];
 
 // Digit field k of those that were read.
-fn field(f: Fields, k: usize) -> Digits {
+fn field(f: Fields, k: usize) -> Option<u64> {
     match k {
         0 => {
             let sender = f.sender;
@@ -34,12 +33,12 @@ fn field(f: Fields, k: usize) -> Digits {
 }
 
 // 1 where there is a number, 0 where there is none.
-fn has_number(d: Digits) -> u64
+fn has_number(d: Option<u64>) -> u64
     ensures { result ≤ 1 }
 {
     match d {
-        Digits::Number(_) => 1,
-        Digits::None => 0,
+        Some(_) => 1,
+        None => 0,
     }
 }
 
@@ -56,7 +55,7 @@ fn known(f: Fields) -> u64 {
 // What field k reads as with another byte at an index, and how many of the six have a number.
 fn altered(rt: &impl Print, k: usize, at: usize, b: u8) -> io::Result<()> {
     let m = message::with(at, b);
-    let f = read(&m).fields;
+    let f = read(&m).unwrap_or(no_fields());
     printing::digits(rt, field(f, k))?;
     printing::number(rt, known(f))
 }
@@ -76,11 +75,9 @@ pub fn fields(rt: &impl Print) -> io::Result<()> {
     let first = FIRST;
     let last = LAST;
     let other = OTHER;
-    let mut k: usize = 0;
-    while k < 30 {
+    for k in 0..30usize {
         let i = k / 5;
         digit_field(rt, i, first[i], last[i], other[k % 5])?;
-        k += 1;
     }
     Ok(())
 }
@@ -99,16 +96,9 @@ fn numbers_of(rt: &impl Print, formed: bool, rate: Rate, amount: Amount) -> io::
 // The ten places with another byte at an index: well formed or not, each by itself.
 fn place(rt: &impl Print, at: usize, b: u8) -> io::Result<()> {
     let m = message::with(at, b);
-    let p = read(&m).fields.places;
-    let formed = p.formed;
-    let rates = p.rates;
-    let amounts = p.amounts;
-    let mut k = 0;
-    while k < 10 {
-        let rate = rates[k];
-        let amount = amounts[k];
-        numbers_of(rt, formed[k], rate, amount)?;
-        k += 1;
+    let p = read(&m).unwrap_or(no_fields()).places;
+    for k in 0..10 {
+        numbers_of(rt, p.formed[k], p.rates[k], p.amounts[k])?;
     }
     printing::end(rt)
 }

@@ -2,12 +2,12 @@
 ghost use Rattle.std.specs.Prelude.{◌<◌};
 
 use crate::message;
-use envelope::application::{Field, bytes, read};
+use envelope::application::{Field, bytes, no_fields, read};
 use std::io;
 
 // The refusal of a message and its digit fields.
 fn numbers(rt: &impl Print, name: &[u8], m: &[u8]) -> io::Result<()> {
-    let f = read(m).fields;
+    let f = read(m).unwrap_or(no_fields());
     let sender = f.sender;
     let recipient = f.recipient;
     let cro = f.cro;
@@ -94,16 +94,9 @@ pub fn heads(rt: &impl Print) -> io::Result<()> {
 
 // How many bytes can be altered one by one and leave the message readable: the 309 of the contents.
 pub fn contents(rt: &impl Print) -> io::Result<()> {
-    let mut readable: u64 = 0;
-    let mut at = 0;
-    while at < 339 {
-        if raised(at) == 0 {
-            readable += 1;
-        }
-        at += 1;
-    }
+    let readable = (0..339).filter(|&at| raised(at) == 0).count();
     printing::text(rt, b"altered and readable")?;
-    printing::number(rt, readable)?;
+    printing::number(rt, readable as u64)?;
     printing::end(rt)
 }
 
@@ -111,11 +104,7 @@ pub fn contents(rt: &impl Print) -> io::Result<()> {
 pub fn lengths(rt: &impl Print) -> io::Result<()> {
     let m = message::bytes();
     let mut long = [0u8; 401];
-    let mut i = 0;
-    while i < 339 {
-        long[i] = m[i];
-        i += 1;
-    }
+    long[..339].copy_from_slice(&m);
     lengths_of(rt, &long)
 }
 
@@ -133,12 +122,10 @@ fn readable_length(rt: &impl Print, m: &[u8]) -> io::Result<bool> {
 // Every length below that of a text: the readable ones, and how many are refused.
 fn lengths_of(rt: &impl Print, long: &[u8]) -> io::Result<()> {
     let mut refused: u64 = 0;
-    let mut n = 0;
-    while n < long.len() {
+    for n in 0..long.len() {
         if !readable_length(rt, &long[..n])? {
             refused += 1;
         }
-        n += 1;
     }
     printing::text(rt, b"refused lengths")?;
     printing::number(rt, refused)?;

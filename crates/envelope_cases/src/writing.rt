@@ -101,10 +101,8 @@ fn number(rt: &impl Print, k: usize) -> io::Result<()> {
 
 // Each number at its widest and one wider.
 pub fn numbers(rt: &impl Print) -> io::Result<()> {
-    let mut k = 0;
-    while k < 26 {
+    for k in 0..26 {
         number(rt, k)?;
-        k += 1;
     }
     Ok(())
 }
@@ -195,15 +193,7 @@ fn space_of(rt: &impl Print, n: usize, kind: &[u8]) -> io::Result<()> {
 
 // How many bytes of a space hold the pattern.
 fn unchanged(space: &[u8]) -> u64 {
-    let mut count: u64 = 0;
-    let mut i = 0;
-    while i < space.len() {
-        if space[i] == 170 {
-            count += 1;
-        }
-        i += 1;
-    }
-    count
+    space.iter().filter(|&&b| b == 170).count() as u64
 }
 
 // 338, 339 and 340 bytes of space, then 0; a short type with room and without.

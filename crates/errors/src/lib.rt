@@ -1,10 +1,7 @@
 // The errors of a message, collected in the order of document 01 as their codes.
 #![tactic(auto)]
 
-pub mod internal;
-
-ghost use Rattle.std.specs.Prelude.{◌≡◌, []};
-ghost use Rattle.errors.specs.Listed.{listed};
+ghost use Rattle.std.specs.Prelude.{◌≡◌};
 
 // The first n of codes are the errors.
 #[derive(Clone, Copy)]
@@ -13,12 +10,45 @@ pub struct Errors {
     pub n: usize,
 }
 
-// No errors.
-pub fn none() -> Errors
-    ensures { (listed result ≡ []) × (result.n ≡ 0) }
-{
-    Errors {
-        codes: [0u16; 16],
-        n: 0,
+impl Errors {
+    ghost use Rattle.std.specs.Prelude.{◌==◌, [], ◌++◌, ◌+◌, ◌<◌, ◌≤◌, length, take};
+    ghost use Rattle.rules.specs.Receiving.{when};
+    ghost use Rattle.errors.specs.Listed.{named, listed};
+
+    // No errors.
+    pub fn none() -> Errors
+        ensures { (listed result ≡ []) × (result.n ≡ 0) }
+    {
+        Errors {
+            codes: [0u16; 16],
+            n: 0,
+        }
+    }
+
+    pub fn is_empty(&self) -> bool
+        ensures { result ≡ (self.now.n == 0) }
+    {
+        self.n == 0
+    }
+
+    // The codes of the errors, in their order, at most all sixteen.
+    pub fn as_slice(&self) -> &[u16]
+        ensures first { result.now ≡ take self.now.n self.now.codes }
+        ensures len { self.now.n ≤ 16 → length result.now ≡ self.now.n }
+    {
+        &self.codes[..self.n.min(16)]
+    }
+
+    // One error more, where bad says so; it asks for a free place.
+    pub fn with(mut self, bad: bool, code: u16) -> Errors
+        requires { self.n < 16 }
+        ensures { (listed result ≡ listed self ++ when bad (named code)) × (result.n ≤ self.n + 1) }
+    {
+        if !bad {
+            return self;
+        }
+        self.codes[self.n] = code;
+        self.n += 1;
+        self
     }
 }

@@ -1,107 +1,68 @@
 // What is printed of an answer and of an allotment.
-ghost use Rattle.std.specs.Prelude.{◌<◌};
-
 use book::Book;
 use errors::Errors;
-use marginal::MarginalRate;
 use places::Rate;
 use std::io;
-use tender::{Allotted, Received, number_of};
+use tender::{Awarded, Received, Reply, number_of};
 
-// That a call was accepted, or the number with which it was refused; 0 is no refusal.
-pub fn answer(rt: &impl Print, number: u64) -> io::Result<()> {
-    if number == 0 {
-        printing::text(rt, b" accepted")?;
-    } else {
-        printing::text(rt, b" refused with")?;
-        printing::number(rt, number)?;
-    }
-    printing::end(rt)
+// That a call was accepted.
+pub fn accepted(rt: &impl Print) -> io::Result<()> {
+    println!(rt; " accepted")
+}
+
+// That a call was refused, and the number with which it was.
+pub fn refused(rt: &impl Print, number: u64) -> io::Result<()> {
+    println!(rt; " refused with {number}")
 }
 
 // The codes of the errors.
 fn codes(rt: &impl Print, e: Errors) -> io::Result<()> {
-    let codes = e.codes;
-    let n = e.n;
-    let mut i = 0;
-    while i < 16 {
-        if i < n {
-            printing::number(rt, codes[i] as u64)?;
-        }
-        i += 1;
+    for code in e.as_slice() {
+        print!(rt; " {code}")?;
     }
     Ok(())
 }
 
 // That a message was confirmed, or the errors with which it was returned, and the length of the reply; or the number with which the reception was refused.
 pub fn received(rt: &impl Print, r: Received) -> io::Result<()> {
-    let refusal = r.refusal;
-    let errors = r.errors;
-    let number = number_of(refusal);
-    if number != 0 {
-        return answer(rt, number);
+    match r.answer {
+        Ok(reply) => replied(rt, reply),
+        Err(refusal) => refused(rt, number_of(refusal)),
     }
-    if errors.n == 0 {
-        printing::text(rt, b" confirmed")?;
+}
+
+// The same of a reception that was not refused.
+fn replied(rt: &impl Print, reply: Reply) -> io::Result<()> {
+    let errors = reply.errors;
+    if errors.is_empty() {
+        print!(rt; " confirmed")?;
     } else {
-        printing::text(rt, b" returned with")?;
+        print!(rt; " returned with")?;
         codes(rt, errors)?;
     }
-    printing::text(rt, b", reply of")?;
-    printing::number(rt, r.length as u64)?;
-    printing::text(rt, b" bytes")?;
-    printing::end(rt)
+    println!(rt; ", reply of {} bytes", reply.length)
 }
 
-// A rate, in hundred-thousandths of a percent.
-fn rate(rt: &impl Print, r: Rate) -> io::Result<()> {
-    printing::text(rt, b" rate")?;
-    printing::number(rt, r.0 as u64)
-}
-
-// The award of a place, in eurocents.
-fn cents_at(a: Allotted, i: usize) -> u64
-    requires { i < 640 }
-{
-    let awards = a.awards;
-    awards[i].0
-}
-
-// An award above zero: code, place from 1, rate and eurocents.
-fn award(rt: &impl Print, b: Book, i: usize, cents: u64) -> io::Result<()>
-    requires { i < 640 }
-{
-    if 0 < cents {
-        printing::text(rt, b"award to")?;
-        printing::number(rt, b.codes[i / 10] as u64)?;
-        printing::text(rt, b" place")?;
-        printing::number(rt, (i % 10) as u64 + 1)?;
-        let rates = b.rates;
-        rate(rt, rates[i])?;
-        printing::text(rt, b" cents")?;
-        printing::number(rt, cents)?;
-        printing::end(rt)?;
-    }
-    Ok(())
-}
-
-// Every award above zero, in book order.
-pub fn awards(rt: &impl Print, a: Allotted) -> io::Result<()> {
-    let book = a.tender.book();
-    let mut i = 0;
-    while i < 640 {
-        award(rt, book, i, cents_at(a, i))?;
-        i += 1;
+// Every award above zero, in book order: code, place from 1, rate in hundred-thousandths of a percent and eurocents.
+pub fn awards(rt: &impl Print, book: Book, a: Awarded) -> io::Result<()> {
+    for (i, award) in a.awards.iter().enumerate() {
+        if 0 < award.0 {
+            let code = book.codes[i / 10];
+            let place = i % 10 + 1;
+            let rate = book.rates[i].0;
+            println!(rt;
+                "award to {code} place {place} rate {rate} cents {}",
+                award.0
+            )?;
+        }
     }
     Ok(())
 }
 
 // The marginal rate, or that there is none.
-pub fn marginal(rt: &impl Print, m: MarginalRate) -> io::Result<()> {
-    printing::text(rt, b"marginal")?;
+pub fn marginal(rt: &impl Print, m: Option<Rate>) -> io::Result<()> {
     match m {
-        MarginalRate::At(r) => rate(rt, r)?,
-        MarginalRate::None => printing::text(rt, b" rate none")?,
+        Some(rate) => println!(rt; "marginal rate {}", rate.0),
+        None => println!(rt; "marginal rate none"),
     }
-    printing::end(rt)
 }

@@ -11,7 +11,6 @@ ghost use Rattle.tender.specs.Viewed.{Given};
 use messages::application;
 use std::io;
 use tender::{Allotted, Tender, number_of};
-use terms::number_of_answer;
 
 // Opens the tender of an announcement for three counterparties.
 fn open(rt: &impl Print, announcement: &[u8]) -> io::Result<Tender>
@@ -20,9 +19,11 @@ fn open(rt: &impl Print, announcement: &[u8]) -> io::Result<Tender>
     let codes = [90001u32, 90002, 90003];
     let limits = [0u64; 3]; // One for each code; with zero nobody is capped.
     let opened = tender::open(announcement, &codes, &limits);
-    let answer = opened.answer;
-    printing::text(rt, b"open")?;
-    lines::answer(rt, number_of_answer(answer))?;
+    print!(rt; "open")?;
+    match opened.answer {
+        Ok(()) => lines::accepted(rt)?,
+        Err(refusal) => lines::refused(rt, terms::number_of(refusal))?,
+    }
     Ok(opened.tender)
 }
 
@@ -33,8 +34,7 @@ fn receive(rt: &impl Print, t: Tender, message: &[u8], time: u64) -> io::Result<
 {
     let mut reply = [0u8; 436];
     let received = t.receive(message, 12032012, time, &mut reply);
-    printing::text(rt, b"receive at")?;
-    printing::number(rt, time)?;
+    print!(rt; "receive at {time}")?;
     lines::received(rt, received)?;
     Ok(received.tender)
 }
@@ -45,20 +45,27 @@ fn close(rt: &impl Print, t: Tender, time: u64) -> io::Result<Tender>
     ensures { IfOk result Given }
 {
     let closed = t.close(12032012, time);
-    let refusal = closed.refusal;
-    printing::text(rt, b"close at")?;
-    printing::number(rt, time)?;
-    lines::answer(rt, number_of(refusal))?;
+    print!(rt; "close at {time}")?;
+    match closed.answer {
+        Ok(()) => lines::accepted(rt)?,
+        Err(refusal) => lines::refused(rt, number_of(refusal))?,
+    }
     Ok(closed.tender)
 }
 
 // Prints what was allotted, or what would be.
 fn show(rt: &impl Print, a: Allotted) -> io::Result<()> {
-    let refusal = a.refusal;
-    let marginal = a.marginal;
-    lines::answer(rt, number_of(refusal))?;
-    lines::awards(rt, a)?;
-    lines::marginal(rt, marginal)
+    match a.answer {
+        Ok(awarded) => {
+            lines::accepted(rt)?;
+            lines::awards(rt, a.tender.book(), awarded)?;
+            lines::marginal(rt, awarded.marginal)
+        }
+        Err(refusal) => {
+            lines::refused(rt, number_of(refusal))?;
+            lines::marginal(rt, None)
+        }
+    }
 }
 
 // Previews the awards, at any hour; the tender stays as it is.
@@ -67,7 +74,7 @@ fn preview(rt: &impl Print, t: Tender) -> io::Result<Tender>
     ensures { IfOk result Given }
 {
     let previewed = t.preview();
-    printing::text(rt, b"preview")?;
+    print!(rt; "preview")?;
     show(rt, previewed)?;
     Ok(previewed.tender)
 }
@@ -77,7 +84,7 @@ fn allot(rt: &impl Print, t: Tender) -> io::Result<()>
     requires { Given t }
 {
     let allotted = t.allot();
-    printing::text(rt, b"allot")?;
+    print!(rt; "allot")?;
     show(rt, allotted)
 }
 

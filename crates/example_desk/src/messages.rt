@@ -20,7 +20,7 @@ pub fn application(code: u64, time: u64, rate: u32, amount: u64) -> [u8; 339] {
         amounts,
     };
     let mut message = [0u8; 339];
-    write(
+    let _ = write(
         numbers,
         b"6G1",
         b"T/2012/0001",

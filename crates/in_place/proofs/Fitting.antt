@@ -1,34 +1,15 @@
 -- Rates that fit their 32 bits are read from words as they were stored. Assumes nothing.
-use mathlib.Core.Path.{◌≡◌, refl, ap, ap₂}
-use mathlib.Core.Bool.{Bool, true, false}
+use mathlib.Core.Path.{◌≡◌, refl, ap, ◌∙◌}
 use mathlib.Core.List.{List, [], ◌∷◌, map}
-use Prim.Native.Nat.{ℕ, suc, ◌+◌, ◌<◌}
-use native.Mathlib.Omega.{arith}
-use lib.Dec.{ltb}
-use lib.ListN.{length, get_or}
-use borrow.Author.Tests.{ltb-true, ltb-false}
+use Rattle.book.proofs.Order.{there_and_back}
 use Rattle.places.specs.declared.Rate.{Rate}
-use Rattle.bids.specs.Columns.{no_rate}
 use Rattle.book.specs.Viewed.{hundred_thousandths, rate_of}
 use Rattle.buffer.specs.Words.{low32, stored_rate}
 
-abbrev pub Fits : List Rate → ℕ → Type 0
-Fits rs n = (j : ℕ) → j < n → hundred_thousandths (get_or rs j no_rate) < 4294967296
-
-low_same : (n : ℕ) → n < 4294967296 → low32 n ≡ n
-low_same n h = omega arith
-
-pub rates_fit : (rs : List Rate) → Fits rs (length rs) → map stored_rate (map hundred_thousandths rs) ≡ rs
-rates_fit [] h = refl
-rates_fit (r ∷ rs) h =
-    ap₂ (λ (x : Rate) (xs : List Rate). x ∷ xs) (ap rate_of (low_same (hundred_thousandths r) (h 0 (omega arith)))) (rates_fit rs (λ j k. h (suc j) (omega arith)))
-
--- one rate more
-pub fits_more : (rs : List Rate) (i : ℕ) → Fits rs i → hundred_thousandths (get_or rs i no_rate) < 4294967296 → Fits rs (i + 1)
-fits_more rs i fits h j k = go (ltb j i) refl
+-- the same numbers are written where they are cut to their last 32 bits, so the rates are read back
+pub rates_fit : (rs : List Rate) → map (λ (r : Rate). low32 (hundred_thousandths r)) rs ≡ map hundred_thousandths rs → map stored_rate (map hundred_thousandths rs) ≡ rs
+rates_fit rs h = cut rs ∙ ap (map rate_of) h ∙ there_and_back rate_of hundred_thousandths (λ r. refl) rs
   where
-    go : (t : Bool) → ltb j i ≡ t → hundred_thousandths (get_or rs j no_rate) < 4294967296
-    go true e = fits j (ltb-true j i e)
-    go false e =
-        let same : j ≡ i = omega (arith, ltb-false j i e) in
-        rw same h
+    cut : (rs : List Rate) → map stored_rate (map hundred_thousandths rs) ≡ map rate_of (map (λ (r : Rate). low32 (hundred_thousandths r)) rs)
+    cut [] = refl
+    cut (r ∷ rs) = ap (λ (xs : List Rate). stored_rate (hundred_thousandths r) ∷ xs) (cut rs)

@@ -1,10 +1,9 @@
 -- What a reception leaves in the words: what is accepted, or every word as it was. Assumes nothing.
+use Rattle.std.specs.Prelude.{Ok}
 use mathlib.Core.Path.{◌≡◌, refl, sym, ap, ap₂, ◌∙◌}
-use mathlib.Core.Bool.{Bool, true, false, cond, not, ◌&&◌}
+use mathlib.Core.Bool.{Bool, true, false, cond}
 use mathlib.Core.List.{List, [], ◌∷◌, map}
-use mathlib.Core.Option.{Option, none}
 use Prim.Native.Nat.{ℕ, ◌<◌}
-use lib.Dec.{eqb}
 use lib.ListN.{length}
 use Rattle.bids.specs.Columns.{bids_from}
 use Rattle.book.specs.Viewed.{hundred_thousandths, viewed, replaced}
@@ -13,8 +12,6 @@ use Rattle.rules.specs.Calls as rules
 use Rattle.rules.specs.Calls.{answer_to}
 use Rattle.errors.specs.Listed.{listed}
 use Rattle.reception.proofs.Listing.{empty_told}
-use Rattle.refusals.specs.declared.Refusal.TheVariants as refusal
-use Rattle.refusals.specs.Conditions.{refusal_number, is_some}
 use Rattle.outcomes.specs.declared.internal.Accepted.{Accepted}
 use Rattle.outcomes.specs.Answers.{unless_confirmed, answer_of}
 use Rattle.outcomes.specs.declared.internal.Outcome.{Outcome}
@@ -53,9 +50,9 @@ module _ (ws : List ℕ) (given : is_tender ws ≡ true) (o : Outcome) where
         given = holding-given ws k.long a.at a.time a.rates a.amounts below ten tens k;
       }
 
--- a message that is not refused is held where it has no errors
-held-told : (o : Outcome) → refusal_number o.refusal ≡ none → 0 < length o.errors.codes → is_held o ≡ is_empty (listed o.errors)
-held-told o q full = ap (λ (l : Option ℕ). not (is_some l) && eqb o.errors.n 0) q ∙ empty_told o.errors.codes o.errors.n full
+-- a message is held where it has no errors
+held-told : (o : Outcome) → 0 < length o.errors.codes → is_held o ≡ is_empty (listed o.errors)
+held-told o full = empty_told o.errors.codes o.errors.n full
 
 -- and then confirmed
 confirmed-told : (es : List Error) (n : ℕ) (old new : List ℕ) → cond (is_empty es) new old ≡ unless_confirmed (answer_to es n) old new
@@ -64,9 +61,9 @@ confirmed-told [] n old new = refl
 confirmed-told (e ∷ es) n old new = refl
 
 -- the words after a reception that is not refused
-pub numbers-left : (ws m after : List ℕ) (o : Outcome) (n : ℕ) → refusal_number o.refusal ≡ none → 0 < length o.errors.codes → o.accepted ≡ accepted_in ws m → after ≡ cond (is_held o) (holding_of ws o.accepted) ws
-    → after ≡ unless_confirmed (answer_of refusal.None o.errors n) ws (holding_of ws (accepted_in ws m))
-numbers-left ws m after o n q full accepts left =
+pub numbers-left : (ws m after : List ℕ) (o : Outcome) (n : ℕ) → 0 < length o.errors.codes → o.accepted ≡ accepted_in ws m → after ≡ cond (is_held o) (holding_of ws o.accepted) ws
+    → after ≡ unless_confirmed (answer_of (Ok (record { errors = o.errors; length = n }))) ws (holding_of ws (accepted_in ws m))
+numbers-left ws m after o n full accepts left =
     left
-    ∙ ap₂ (λ (b : Bool) (a : Accepted). cond b (holding_of ws a) ws) (held-told o q full) accepts
+    ∙ ap₂ (λ (b : Bool) (a : Accepted). cond b (holding_of ws a) ws) (held-told o full) accepts
     ∙ confirmed-told (listed o.errors) n ws (holding_of ws (accepted_in ws m))

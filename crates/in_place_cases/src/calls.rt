@@ -1,16 +1,30 @@
 // The calls in place, each on words of its own. Words that hold no tender are answered with the number
 // 99, which no call gives.
-ghost use Rattle.std.specs.Prelude.{◌≤◌};
-
 use buffer_allotment::internal::preview_in;
 use buffer_opening::internal::open_in;
 use buffer_questions::is_tender;
-use errors::none;
-use in_place::internal::{Told, allot_in, close_in, receive_in, revoke_in};
-use marginal::MarginalRate;
-use outcomes::internal::AllotAnswer;
+use errors::Errors;
+use in_place::internal::{allot_in, close_in, receive_in, revoke_in};
+use outcomes::internal::Reply;
+use places::Rate;
 use refusals::{Refusal, number_of};
-use terms::number_of_answer;
+use terms::OpenRefusal;
+
+// The number of the refusal in the answer to an opening, 0 where there is none.
+pub fn opening_number(answer: Result<(), OpenRefusal>) -> u64 {
+    match answer {
+        Ok(()) => 0,
+        Err(refusal) => terms::number_of(refusal),
+    }
+}
+
+// The same of the answer to another call.
+pub fn number(answer: Result<(), Refusal>) -> u64 {
+    match answer {
+        Ok(()) => 0,
+        Err(refusal) => number_of(refusal),
+    }
+}
 
 // The number of a refusal, and the words after the call.
 #[derive(Clone, Copy)]
@@ -24,7 +38,7 @@ pub fn open(before: [u64; 1560], a: [u8; 225], codes: &[u32], limits: &[u64]) ->
     let mut words = before;
     let answer = open_in(&mut words, &a, codes, limits);
     After {
-        number: number_of_answer(answer),
+        number: opening_number(answer),
         words,
     }
 }
@@ -35,9 +49,9 @@ pub fn close(before: [u64; 1560], date: u64, time: u64) -> After {
     if !is_tender(&words) {
         return After { number: 99, words };
     }
-    let refusal = close_in(&mut words, date, time);
+    let answer = close_in(&mut words, date, time);
     After {
-        number: number_of(refusal),
+        number: number(answer),
         words,
     }
 }
@@ -48,9 +62,9 @@ pub fn revoke(before: [u64; 1560]) -> After {
     if !is_tender(&words) {
         return After { number: 99, words };
     }
-    let refusal = revoke_in(&mut words);
+    let answer = revoke_in(&mut words);
     After {
-        number: number_of(refusal),
+        number: number(answer),
         words,
     }
 }
@@ -61,18 +75,28 @@ pub struct Awarded {
     pub number: u64,
     pub words: [u64; 1560],
     pub awards: [u64; 640],
-    pub marginal: MarginalRate,
+    pub marginal: Option<Rate>,
 }
 
 // What an answer gives, with the awards and the words after it.
-fn given_by(answer: AllotAnswer, words: [u64; 1560], awards: [u64; 640]) -> Awarded {
-    let refusal = answer.refusal;
-    let marginal = answer.marginal;
-    Awarded {
-        number: number_of(refusal),
-        words,
-        awards,
-        marginal,
+fn given_by(
+    answer: Result<Option<Rate>, Refusal>,
+    words: [u64; 1560],
+    awards: [u64; 640],
+) -> Awarded {
+    match answer {
+        Ok(marginal) => Awarded {
+            number: 0,
+            words,
+            awards,
+            marginal,
+        },
+        Err(refusal) => Awarded {
+            number: number_of(refusal),
+            words,
+            awards,
+            marginal: None,
+        },
     }
 }
 
@@ -82,7 +106,7 @@ fn no_tender(words: [u64; 1560]) -> Awarded {
         number: 99,
         words,
         awards: [0u64; 640],
-        marginal: MarginalRate::None,
+        marginal: None,
     }
 }
 
@@ -126,24 +150,10 @@ pub fn at(time: u64) -> Reception {
     }
 }
 
-// A number, or 348 where it is larger.
-pub fn up_to_348(n: usize) -> usize
-    ensures { result ≤ 348 }
-{
-    if n < 348 { n } else { 348 }
-}
-
-// A number, or 438 where it is larger.
-pub fn up_to_438(n: usize) -> usize
-    ensures { result ≤ 438 }
-{
-    if n < 438 { n } else { 438 }
-}
-
-// What a reception tells, with its reply space and the words after it.
+// The answer to a reception, with its reply space and the words after it.
 #[derive(Clone, Copy)]
 pub struct Replied {
-    pub told: Told,
+    pub answer: Result<Reply, Refusal>,
     pub space: [u8; 438],
     pub words: [u64; 1560],
 }
@@ -151,19 +161,22 @@ pub struct Replied {
 // Receives a message. For words that hold no tender the reply has the length 99, which none has.
 pub fn receive(before: [u64; 1560], m: &[u8], at: Reception) -> Replied {
     let mut words = before;
-    let room = up_to_438(at.room);
+    let room = at.room.min(438);
     let mut space = [238u8; 438];
     if !is_tender(&words) {
         return Replied {
-            told: Told {
-                refusal: Refusal::None,
-                errors: none(),
+            answer: Ok(Reply {
+                errors: Errors::none(),
                 length: 99,
-            },
+            }),
             space,
             words,
         };
     }
-    let told = receive_in(&mut words, m, at.date, at.time, &mut space[0..room]);
-    Replied { told, space, words }
+    let answer = receive_in(&mut words, m, at.date, at.time, &mut space[0..room]);
+    Replied {
+        answer,
+        space,
+        words,
+    }
 }

@@ -4,7 +4,6 @@ ghost use Rattle.std.specs.Prelude.{◌≤◌, length};
 use book::Book;
 use buffer_opening::internal::put_terms;
 use errors::Errors;
-use marginal::MarginalRate;
 use places::{Amount, Rate};
 use refusals::State;
 use tender::Tender;
@@ -12,58 +11,30 @@ use terms::Terms;
 
 // Whether two messages have the same errors.
 pub fn same_errors(a: Errors, b: Errors) -> bool {
-    let x = a.codes;
-    let y = b.codes;
-    let mut same = a.n == b.n;
-    let mut i = 0;
-    while i < 16 {
-        same = same & (x[i] == y[i]);
-        i += 1;
-    }
-    same
+    (a.n == b.n) & (a.codes == b.codes)
 }
 
 // Whether all awards are equal.
 pub fn same_awards(a: [Amount; 640], awards: [u64; 640]) -> bool {
-    let mut same = true;
-    let mut i = 0;
-    while i < 640 {
-        same = same & (a[i].0 == awards[i]);
-        i += 1;
-    }
-    same
+    a.iter().zip(&awards).all(|(a, &cents)| a.0 == cents)
 }
 
 // One more than a marginal rate, or 0 where there is none.
-fn past_rate(m: MarginalRate) -> u64 {
+fn past_rate(m: Option<Rate>) -> u64 {
     match m {
-        MarginalRate::At(rate) => rate.0 as u64 + 1,
-        MarginalRate::None => 0,
+        Some(rate) => rate.0 as u64 + 1,
+        None => 0,
     }
 }
 
 // Whether two marginal rates are one rate, or both none.
-pub fn same_rate(a: MarginalRate, b: MarginalRate) -> bool {
+pub fn same_rate(a: Option<Rate>, b: Option<Rate>) -> bool {
     past_rate(a) == past_rate(b)
-}
-
-// Whether words are the same.
-fn same_words(a: &[u64], b: &[u64]) -> bool {
-    if a.len() != b.len() {
-        return false;
-    }
-    let mut same = true;
-    let mut i = 0;
-    while i < a.len() {
-        same = same & (a[i] == b[i]);
-        i += 1;
-    }
-    same
 }
 
 // Whether all words are the same.
 pub fn all_same(a: [u64; 1560], b: [u64; 1560]) -> bool {
-    same_words(&a, &b)
+    a == b
 }
 
 // The number of a state in the words.
@@ -82,49 +53,29 @@ fn same_terms(terms: Terms, words: &[u64]) -> bool
 {
     let mut numbers = [0u64; 21];
     put_terms(&mut numbers, 0, terms);
-    same_words(&numbers, &words[3..24])
-}
-
-// The number of a flag in the words.
-fn flag(has: bool) -> u64 {
-    if has { 1 } else { 0 }
+    &numbers[..] == &words[3..24]
 }
 
 // Whether the words from 24, 88 and 152 on are the codes, the times held and whether they are held.
 fn same_codes(b: Book, words: &[u64]) -> bool
     requires { 1560 ≤ length words.now }
 {
-    let codes = b.codes;
-    let held = b.held;
-    let has = b.has;
     let mut same = true;
-    let mut i = 0;
-    while i < 64 {
-        same = same
-            & (codes[i] as u64 == words[24 + i])
-            & (held[i] == words[88 + i])
-            & (flag(has[i]) == words[152 + i]);
-        i += 1;
+    for i in 0..64 {
+        same &= (u64::from(b.codes[i]) == words[24 + i])
+            & (b.held[i] == words[88 + i])
+            & (u64::from(b.has[i]) == words[152 + i]);
     }
     same
-}
-
-// The number of a rate in the words.
-fn rate_number(rate: Rate) -> u64 {
-    rate.0 as u64
 }
 
 // Whether the words from 216 and 856 on are the rates and the amounts.
 fn same_places(b: Book, words: &[u64]) -> bool
     requires { 1560 ≤ length words.now }
 {
-    let rates = b.rates;
-    let amounts = b.amounts;
     let mut same = true;
-    let mut i = 0;
-    while i < 640 {
-        same = same & (rate_number(rates[i]) == words[216 + i]) & (amounts[i].0 == words[856 + i]);
-        i += 1;
+    for i in 0..640 {
+        same &= (u64::from(b.rates[i].0) == words[216 + i]) & (b.amounts[i].0 == words[856 + i]);
     }
     same
 }
@@ -133,8 +84,7 @@ fn same_places(b: Book, words: &[u64]) -> bool
 fn same_limits(b: Book, words: &[u64]) -> bool
     requires { 1560 ≤ length words.now }
 {
-    let limits = b.limits;
-    same_words(&limits, &words[1496..1560])
+    &b.limits[..] == &words[1496..1560]
 }
 
 // Whether the words are a tender's.
@@ -153,5 +103,5 @@ pub fn same_tender(t: Tender, words: [u64; 1560]) -> bool {
 
 // Whether two reply spaces are the same.
 pub fn same_spaces(a: [u8; 438], b: [u8; 438]) -> bool {
-    texts::same(&a, &b)
+    a == b
 }

@@ -149,10 +149,8 @@ fn step(rt: &impl Print, b: Both, k: u8) -> io::Result<Both>
 // Every step, after an opening for LP.
 pub fn run(rt: &impl Print, steps: &[u8]) -> io::Result<()> {
     let mut b = opening(rt, b'O')?;
-    let mut i = 0;
-    while i < steps.len() {
-        b = step(rt, b, steps[i])?;
-        i += 1;
+    for &k in steps {
+        b = step(rt, b, k)?;
     }
     Ok(())
 }

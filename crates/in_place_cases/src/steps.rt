@@ -5,10 +5,11 @@ ghost use Rattle.tender.specs.Viewed.{Given};
 use crate::calls;
 use crate::calls::{Awarded, Reception, Replied};
 use crate::comparing::{all_same, same_awards, same_errors, same_rate, same_spaces, same_tender};
-use refusals::number_of;
+use outcomes::internal::Reply;
+use places::Amount;
+use refusals::{Refusal, number_of};
 use std::io;
 use tender::{Allotted, Received, Tender};
-use terms::number_of_answer;
 
 // A tender, and the words that hold the same one.
 #[derive(Clone, Copy)]
@@ -41,10 +42,8 @@ fn line(rt: &impl Print, number: u64, same: bool) -> io::Result<()> {
 // The limits of an opening.
 fn limited(rt: &impl Print, limits: &[u64]) -> io::Result<()> {
     printing::text(rt, b" limits")?;
-    let mut i = 0;
-    while i < limits.len() {
-        printing::number(rt, limits[i])?;
-        i += 1;
+    for &limit in limits {
+        printing::number(rt, limit)?;
     }
     Ok(())
 }
@@ -59,7 +58,7 @@ pub fn open(rt: &impl Print, a: [u8; 225], codes: &[u32], limits: &[u64]) -> io:
     limited(rt, limits)?;
     let o = tender::open(&a, codes, limits);
     let answer = o.answer;
-    let number = number_of_answer(answer);
+    let number = calls::opening_number(answer);
     let before = [7u64; 1560];
     let after = calls::open(before, a, codes, limits);
     let words = after.words;
@@ -92,46 +91,51 @@ fn receive_by_value(t: Tender, m: &[u8], at: Reception) -> ByValue
     requires { Given t }
     ensures { Given result.received.tender }
 {
-    let room = calls::up_to_438(at.room);
+    let room = at.room.min(438);
     let mut space = [238u8; 438];
     let received = t.receive(m, at.date, at.time, &mut space[0..room]);
     ByValue { received, space }
+}
+
+// Whether two answers to a reception are the same.
+fn same_answers(a: Result<Reply, Refusal>, b: Result<Reply, Refusal>) -> bool {
+    match a {
+        Ok(x) => match b {
+            Ok(y) => same_errors(x.errors, y.errors) & (x.length == y.length),
+            Err(_) => false,
+        },
+        Err(x) => match b {
+            Ok(_) => false,
+            Err(y) => x == y,
+        },
+    }
 }
 
 // Whether two receptions give the same.
 fn same_replies(by_value: ByValue, after: Replied) -> bool {
     let r = by_value.received;
     let tender = r.tender;
-    let told = after.told;
-    let a = r.refusal;
-    let b = told.refusal;
-    let x = r.errors;
-    let y = told.errors;
     let space = by_value.space;
     let lent = after.space;
     let words = after.words;
-    (number_of(a) == number_of(b))
-        & same_errors(x, y)
-        & (r.length == told.length)
-        & same_spaces(space, lent)
-        & same_tender(tender, words)
+    same_answers(r.answer, after.answer) & same_spaces(space, lent) & same_tender(tender, words)
 }
 
 // A reception that was confirmed, returned with so many errors, or refused.
 fn received(rt: &impl Print, r: Received, same: bool) -> io::Result<()> {
-    let refusal = r.refusal;
-    let errors = r.errors;
-    let number = number_of(refusal);
-    if number != 0 {
-        return line(rt, number, same);
+    match r.answer {
+        Ok(reply) => {
+            let n = reply.errors.n;
+            if n == 0 {
+                printing::text(rt, b" confirmed")?;
+            } else {
+                printing::text(rt, b" returned with errors")?;
+                printing::number(rt, n as u64)?;
+            }
+            end(rt, same)
+        }
+        Err(refusal) => line(rt, number_of(refusal), same),
     }
-    if errors.n == 0 {
-        printing::text(rt, b" confirmed")?;
-    } else {
-        printing::text(rt, b" returned with errors")?;
-        printing::number(rt, errors.n as u64)?;
-    }
-    end(rt, same)
 }
 
 // The sender's code and the reference time of a message, which stands nine bytes later in one of a branch, and its reception.
@@ -157,7 +161,7 @@ pub fn receive(rt: &impl Print, b: Both, m: [u8; 348], at: Reception) -> io::Res
     let t = b.tender;
     let words = b.words;
     arriving(rt, m, at)?;
-    let end = calls::up_to_348(at.length);
+    let end = at.length.min(348);
     let by_value = receive_by_value(t, &m[0..end], at);
     let r = by_value.received;
     let tender = r.tender;
@@ -179,8 +183,7 @@ pub fn close(rt: &impl Print, b: Both, date: u64, time: u64) -> io::Result<Both>
     printing::number(rt, time)?;
     let r = t.close(date, time);
     let tender = r.tender;
-    let refusal = r.refusal;
-    let number = number_of(refusal);
+    let number = calls::number(r.answer);
     let after = calls::close(words, date, time);
     let words = after.words;
     let same = same_tender(tender, words);
@@ -198,8 +201,7 @@ pub fn revoke(rt: &impl Print, b: Both) -> io::Result<Both>
     printing::text(rt, b"revoking")?;
     let r = t.revoke();
     let tender = r.tender;
-    let refusal = r.refusal;
-    let number = number_of(refusal);
+    let number = calls::number(r.answer);
     let after = calls::revoke(words);
     let words = after.words;
     let same = same_tender(tender, words);
@@ -209,13 +211,23 @@ pub fn revoke(rt: &impl Print, b: Both) -> io::Result<Both>
 
 // The eurocents of all awards.
 fn total(awards: [u64; 640]) -> u64 {
-    let mut sum: u64 = 0;
-    let mut i = 0;
-    while i < 640 {
-        sum = sum.wrapping_add(awards[i]);
-        i += 1;
+    awards
+        .iter()
+        .fold(0, |sum: u64, &cents| sum.wrapping_add(cents))
+}
+
+// Whether an allotment or a preview gave the same awards and the same marginal rate in place; zeros and none where it was refused.
+fn same_awarded(r: Allotted, after: Awarded) -> bool {
+    let rate = after.marginal;
+    let cents = after.awards;
+    match r.answer {
+        Ok(a) => (after.number == 0) & same_awards(a.awards, cents) & same_rate(a.marginal, rate),
+        Err(refusal) => {
+            (after.number == number_of(refusal))
+                & same_awards([Amount(0); 640], cents)
+                & same_rate(None, rate)
+        }
     }
-    sum
 }
 
 // What an allotment or a preview gave by value and in place.
@@ -224,17 +236,15 @@ fn awarded(rt: &impl Print, r: Allotted, after: Awarded) -> io::Result<Both>
     ensures { IfOk result (λ b. Given b.tender) }
 {
     let tender = r.tender;
-    let refusal = r.refusal;
-    let number = number_of(refusal);
-    let awards = r.awards;
-    let marginal = r.marginal;
-    let rate = after.marginal;
-    let cents = after.awards;
     let words = after.words;
+    let cents = after.awards;
     printing::text(rt, b" total")?;
     printing::number(rt, total(cents))?;
-    let same = same_awards(awards, cents) & same_rate(marginal, rate) & same_tender(tender, words);
-    line(rt, number, (number == after.number) & same)?;
+    let same = same_awarded(r, after) & same_tender(tender, words);
+    match r.answer {
+        Ok(_) => line(rt, 0, same)?,
+        Err(refusal) => line(rt, number_of(refusal), same)?,
+    }
     Ok(Both { tender, words })
 }
 

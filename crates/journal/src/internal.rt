@@ -46,6 +46,7 @@ pub fn run_in(
     let mut at = 0;
     let mut length = 0;
     let room = space.len();
+    // A while, since the end of the log and the room for lines end it as well as the input does.
     while holds_field(input, at) & !standing.ended & (23040 <= room - length) {
         let end = at + 3 + length_at(input, at);
         let taken = step(

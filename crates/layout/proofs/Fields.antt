@@ -1,9 +1,9 @@
 -- Laws of fields in a message, at an index of it. Assumes nothing.
 use mathlib.Core.Path.{◌≡◌, refl, sym, ap, ◌∙◌}
 use mathlib.Core.Bool.{Bool, true, false, cond, ◌&&◌, ◌||◌, and-true, and-false, or_self, or-false}
-use mathlib.Core.List.{List, [], ◌∷◌}
+use mathlib.Core.List.{List, [], ◌∷◌, ◌++◌}
 use Prim.Native.Nat.{ℕ, zero, suc, ◌+◌, ◌*◌, ◌-◌, ◌≤◌, ◌<◌}
-use native.Mathlib.Nat.{add-zero, add_assoc, not-suc-le-zero, le_of_suc-le-suc}
+use native.Mathlib.Nat.{add-zero, not-suc-le-zero}
 use native.Mathlib.Omega.{arith}
 use lib.Dec.{leb, eqb}
 use lib.ListN.{length, take, drop, get_or, length-drop}
@@ -82,35 +82,30 @@ module _ (tag short long : ℕ) (m : List ℕ) (at n : ℕ) (e : n ≡ length_at
 pub fits_at : (e : FieldEntry) (m : List ℕ) (at : ℕ) → starts e (drop at m) ≡ true → 3 + length_at (drop at m) ≤ length m - at
 fits_at e m at h = rw length-drop at (starts-fits e (drop at m) h)
 
--- the layout in the code's bytes
-cons3 : (l : List ℕ) → 3 ≤ length l → layout_of l ≡ entry (get_or l 0 0) (get_or l 1 0) (get_or l 2 0) ∷ layout_of (drop 3 l)
+-- the layout in the code's bytes: three of them are an entry, and fewer are none
+pub layout_more : (f rest : List ℕ) → length f ≡ 3 → layout_of (f ++ rest) ≡ entry (get_or f 0 0) (get_or f 1 0) (get_or f 2 0) ∷ layout_of rest
 unfolding layout_of
-cons3 [] h = absurd (not-suc-le-zero h)
-cons3 (t ∷ []) h = absurd (not-suc-le-zero (le_of_suc-le-suc h))
-cons3 (t ∷ a ∷ []) h = absurd (not-suc-le-zero (le_of_suc-le-suc (le_of_suc-le-suc h)))
-cons3 (t ∷ a ∷ b ∷ l) h = refl
+layout_more [] rest h = absurd (omega arith)
+layout_more (t ∷ []) rest h = absurd (omega arith)
+layout_more (t ∷ a ∷ []) rest h = absurd (omega arith)
+layout_more (t ∷ a ∷ b ∷ []) rest h = refl
+layout_more (t ∷ a ∷ b ∷ x ∷ f) rest h = absurd (omega arith)
 
-pub layout_at : (l : List ℕ) (k : ℕ) → 3 ≤ length l - k → layout_of (drop k l) ≡ entry (get_or l k 0) (get_or l (k + 1) 0) (get_or l (k + 2) 0) ∷ layout_of (drop (k + 3) l)
-layout_at l k h = cons3 (drop k l) (rw length-drop h) ∙ simp (get_or-drop, drop-drop, add-zero)
-
-none3 : (l : List ℕ) → length l < 3 → layout_of l ≡ []
+pub layout_end : (l : List ℕ) → length l < 3 → layout_of l ≡ []
 unfolding layout_of
-none3 [] h = refl
-none3 (t ∷ []) h = refl
-none3 (t ∷ a ∷ []) h = refl
-none3 (t ∷ a ∷ b ∷ l) h = absurd (not-suc-le-zero (le_of_suc-le-suc (le_of_suc-le-suc (le_of_suc-le-suc h))))
-
-pub layout_end : (l : List ℕ) (k : ℕ) → length l - k < 3 → layout_of (drop k l) ≡ []
-layout_end l k h = none3 (drop k l) (rw length-drop h)
+layout_end [] h = refl
+layout_end (t ∷ []) h = refl
+layout_end (t ∷ a ∷ []) h = refl
+layout_end (t ∷ a ∷ b ∷ l) h = absurd (omega arith)
 
 -- a turn of the loop over the layout
 pub readable_no : (e : FieldEntry) (es : List FieldEntry) (m : List ℕ) → starts e m ≡ false → readable (e ∷ es) m ≡ false
 unfolding readable
 readable_no e es m h = rw h
 
-pub readable_more : (e : FieldEntry) (es : List FieldEntry) (m : List ℕ) (at n : ℕ) → n ≡ length_at (drop at m) → starts e (drop at m) ≡ true → readable (e ∷ es) (drop at m) ≡ readable es (drop (at + 3 + n) m)
+pub readable_more : (e : FieldEntry) (es : List FieldEntry) (m : List ℕ) (at n : ℕ) → n ≡ length_at (drop at m) → starts e (drop at m) ≡ true → readable (e ∷ es) (drop at m) ≡ readable es (drop (at + (3 + n)) m)
 unfolding readable
-readable_more e es m at n l h = rw (h, l, drop-drop, add_assoc)
+readable_more e es m at n l h = rw (h, l, drop-drop)
 
 pub readable_end : (m : List ℕ) (at : ℕ) → at ≤ length m → eqb at (length m) ≡ readable [] (drop at m)
 unfolding readable
@@ -127,20 +122,20 @@ whole-fits (suc j) m h = leb-true (3 + length_at m) (length m) (and_left (leb (3
 pub whole_at : (j : ℕ) (m : List ℕ) (at : ℕ) → whole j (drop at m) ≡ true → 3 + length_at (drop at m) ≤ length m - at
 whole_at j m at h = rw length-drop at (whole-fits j (drop at m) h)
 
-pub whole_more : (j : ℕ) (m : List ℕ) (at n : ℕ) → 0 < j → n ≡ length_at (drop at m) → whole j (drop at m) ≡ true → whole (j - 1) (drop (at + 3 + n) m) ≡ true
+pub whole_more : (j : ℕ) (m : List ℕ) (at n : ℕ) → 0 < j → n ≡ length_at (drop at m) → whole j (drop at m) ≡ true → whole (j - 1) (drop (at + (3 + n)) m) ≡ true
 unfolding whole
 whole_more zero m at n p e h = absurd (not-suc-le-zero p)
 whole_more (suc j) m at n p e h =
     let q : suc j - 1 ≡ j = omega arith in
-    rw (q, e) (rw (drop-drop, ← add_assoc) at (and_right (leb (3 + length_at (drop at m)) (length (drop at m))) (whole j (drop (3 + length_at (drop at m)) (drop at m))) h))
+    rw (q, e) (rw drop-drop at (and_right (leb (3 + length_at (drop at m)) (length (drop at m))) (whole j (drop (3 + length_at (drop at m)) (drop at m))) h))
 
-pub offset_more : (j : ℕ) (m : List ℕ) (at n : ℕ) → 0 < j → n ≡ length_at (drop at m) → at + offset j (drop at m) ≡ at + 3 + n + offset (j - 1) (drop (at + 3 + n) m)
+pub offset_more : (j : ℕ) (m : List ℕ) (at n : ℕ) → 0 < j → n ≡ length_at (drop at m) → at + offset j (drop at m) ≡ at + (3 + n) + offset (j - 1) (drop (at + (3 + n)) m)
 unfolding offset
 offset_more zero m at n p e = absurd (not-suc-le-zero p)
 offset_more (suc j) m at n p e =
     let q : suc j - 1 ≡ j = omega arith in
-    let i : at + (3 + length_at (drop at m)) ≡ at + 3 + n = omega arith in
-    let d : drop (3 + length_at (drop at m)) (drop at m) ≡ drop (at + 3 + n) m = drop-drop (3 + length_at (drop at m)) at m ∙ ap (λ (j : ℕ). drop j m) i in
+    let i : at + (3 + length_at (drop at m)) ≡ at + (3 + n) = omega arith in
+    let d : drop (3 + length_at (drop at m)) (drop at m) ≡ drop (at + (3 + n)) m = drop-drop (3 + length_at (drop at m)) at m ∙ ap (λ (j : ℕ). drop j m) i in
     rw (q, d) (omega arith)
 
 -- field k is within m

@@ -17,10 +17,8 @@ pub fn offset_of(m: &[u8], k: usize) -> usize
     ensures { result ≡ offset k m.now }
 {
     let mut at = 0;
-    let mut left = k;
-    while 0 < left {
-        at = at + 3 + length_at(m, at);
-        left -= 1;
+    for _ in 0..k {
+        at += 3 + length_at(m, at);
     }
     at
 }

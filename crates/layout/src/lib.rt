@@ -33,15 +33,12 @@ fn starts_at(m: &[u8], at: usize, tag: u8, short: u8, long: u8) -> bool
 pub fn readable(layout: &[u8], m: &[u8]) -> bool
     ensures { result ≡ readable (layout_of layout.now) m.now }
 {
-    let mut k = 0;
     let mut at = 0;
-    while 3 <= layout.len() - k {
-        if starts_at(m, at, layout[k], layout[k + 1], layout[k + 2]) {
-            at = at + 3 + length_at(m, at);
-            k += 3;
-        } else {
+    for field in layout.chunks_exact(3) {
+        if !starts_at(m, at, field[0], field[1], field[2]) {
             return false;
         }
+        at += 3 + length_at(m, at);
     }
     at == m.len()
 }

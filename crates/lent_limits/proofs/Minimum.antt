@@ -11,7 +11,6 @@ use lib.ListN.{length, length-append}
 use borrow.Author.Tests.{ltb-false}
 use Rattle.laws.proofs.Tests.{and_left, and_right, or_left, or_right}
 use Rattle.announcement.specs.declared.Characteristics.{Characteristics}
-use Rattle.announcement.specs.Announcement.{announcement_of}
 use Rattle.calendar.specs.Calendar.{valid_date, valid_time}
 use Rattle.layout.specs.Fields.{readable}
 use Rattle.places.specs.declared.Place.{Place}
@@ -20,7 +19,7 @@ use Rattle.texts.specs.Texts.{ascii}
 use Rattle.envelope.specs.declared.application.Field.TheVariants.{Bids}
 use Rattle.envelope.specs.Application.{layout6_g1, bytes_of}
 use Rattle.rules.specs.Allotment.{Bid, filled}
-use Rattle.rules.specs.Opening.{Admission, Terms, any, not_announcement, other_origin, malformed_announcement, unknown_type, impossible, impossible_numbers, opening_refused, terms_of}
+use Rattle.rules.specs.Opening.{Admission, Terms, any, not_announcement, other_origin, malformed_announcement, unknown_type, impossible, impossible_numbers, opening_refused, characteristics_told, terms_of}
 use Rattle.rules.specs.Receiving.{Reception, Error, Submission, Entry, bids_in, when, small_bid, bid_errors, place_errors, errors, is_empty, is_sound, submission, is_from, is_after, takes}
 use Rattle.rules.proofs.Opening.{next_condition}
 use Rattle.rules.proofs.Book.{is_sound_lem}
@@ -48,7 +47,7 @@ minimum_above_zero m a h =
     let c3 = next_condition 3 (malformed_announcement m) _ c2.1 in
     let c4 = next_condition 4 (unknown_type m) _ c3.1 in
     let c5 = next_condition 5 (impossible_numbers m) _ c4.1 in
-    possible_minimum (announcement_of m).characteristics c5.0
+    possible_minimum (characteristics_told m) c5.0
 
 -- lists of errors that are empty
 none_listed : (es : List Error) → is_empty es ≡ true → length es ≡ 0

@@ -1,8 +1,8 @@
 -- The log field by field: the state after each and the lines that it gives (document 01, 'The Friday log'). Assumes nothing.
 use Rattle.std.specs.Prelude.{Bool, true, false, cond, not, ◌&&◌, List, [], ◌∷◌, ◌++◌, ℕ, zero, suc, ◌+◌, ◌/◌, ◌%◌, eqb, leb, ltb, length, take, drop, get_or, replicate}
 use Rattle.std.proofs.Math.Option.{Option, none, some}
-use Rattle.digits.specs.declared.Digits.{Digits}
-use Rattle.digits.specs.declared.Digits.TheVariants.{Number, None}
+use Rattle.digits.specs.Decimal.{Digits}
+use Rattle.std.specs.Prelude.{Some, None}
 use Rattle.digits.specs.Decimal.{all_digits, digits_of, number_in}
 use Rattle.layout.specs.Fields.{length_at}
 use Rattle.rules.specs.Opening.{uncapped}
@@ -35,8 +35,8 @@ on_tender l call = elim l.tender [ none ↦ (l, []) | some t ↦ (record { ended
 -- 'A0 admitted codes, five digits each': so many groups of five, or none where one is not digits
 abbrev pub and_code : Digits → Option (List ℕ) → Option (List ℕ)
 and_code None codes = none
-and_code (Number c) none = none
-and_code (Number c) (some codes) = some (c ∷ codes)
+and_code (Some c) none = none
+and_code (Some c) (some codes) = some (c ∷ codes)
 
 unfoldable pub groups : ℕ → List ℕ → Option (List ℕ)
 groups zero s = some []

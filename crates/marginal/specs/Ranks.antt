@@ -1,16 +1,16 @@
 -- The marginal rate as document 01's, and bids in as keys that rise from the best rate to the worst, and in book order at one rate. Assumes nothing.
-use Rattle.std.specs.Prelude.{◌≡◌, Bool, true, ◌&&◌, List, [], ◌∷◌, ℕ, ◌+◌, ◌/◌, ◌%◌, ◌≤◌, ◌<◌, ltb, length, get_or, take}
+use Rattle.std.specs.Prelude.{◌≡◌, Bool, true, ◌&&◌, List, [], ◌∷◌, ℕ, ◌+◌, ◌/◌, ◌%◌, ◌≤◌, ◌<◌, ltb, length, get_or, take, Some, None}
+use Rattle.std.specs.Prelude as prelude
 use Rattle.std.proofs.Math.Option.{Option, none, some}
 use Rattle.sort.specs.Sorting.{weight_of}
+use Rattle.places.specs.declared.Rate.{Rate}
 use Rattle.rules.specs.Allotment.{Bid, no_bid, Offer, is_in, keep}
 use Rattle.offer.specs.Viewed.{ranks}
-use Rattle.marginal.specs.declared.MarginalRate.{MarginalRate}
-use Rattle.marginal.specs.declared.MarginalRate.TheVariants as variants
 
 -- 'the first rate .., or none'
-abbrev pub rate_in : MarginalRate → Option ℕ
-rate_in (variants.At r) = some r.0
-rate_in variants.None = none
+abbrev pub rate_in : prelude.Option Rate → Option ℕ
+rate_in (Some r) = some r.0
+rate_in None = none
 
 -- the bid of a key: its index stands in the last ten binary digits
 abbrev pub key_bid : List Bid → ℕ → Bid

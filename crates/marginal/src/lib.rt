@@ -2,12 +2,3 @@
 #![tactic(auto)]
 
 pub mod internal;
-
-use places::Rate;
-
-// The marginal rate, or that there is none.
-#[derive(Clone, Copy)]
-pub enum MarginalRate {
-    At(Rate),
-    None,
-}

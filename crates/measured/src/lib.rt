@@ -3,8 +3,8 @@
 
 use allotment::internal::allot;
 use announcement::Side;
+use bids::BidColumns;
 use division::internal::divide;
-use marginal::MarginalRate;
 use offer::Offer;
 use places::{Amount, Rate};
 
@@ -29,26 +29,9 @@ pub extern "C" fn measured_share(a: u64, m: u64, e: u64) -> u64 {
     divide(Amount(a), Amount(m), Amount(e)).quotient.0
 }
 
-// Zeros for awards that were refused, which the benchmark expects.
-fn clear(awards: &mut [u64]) {
-    let mut i = 0;
-    while i < awards.len() {
-        awards[i] = 0;
-        i += 1;
-    }
-}
-
 // The side that a flag in C stands for.
 fn side_of(lp: bool) -> Side {
     if lp { Side::Lp } else { Side::La }
-}
-
-// A marginal rate as a number.
-fn number_of(m: MarginalRate) -> u64 {
-    match m {
-        MarginalRate::At(rate) => rate.0 as u64,
-        MarginalRate::None => NO_RATE,
-    }
 }
 
 // Allots to 640 places with 64 limits, writes the awards, zeros where condition 16 refuses, and gives the marginal rate or one of the numbers above, for measuring only.
@@ -79,17 +62,17 @@ pub extern "C" fn measured_allot(
         limit: Rate(limit),
         offered: Amount(offered),
     };
-    let a = allot(
-        o,
-        &limits[0..64],
-        &rates[0..640],
-        &amounts[0..640],
-        &mut awards[0..640],
-    );
-    if a.exceeds {
-        clear(awards);
-        return EXCEEDS;
+    let bids = BidColumns {
+        rates: &rates[..640],
+        amounts: &amounts[..640],
+    };
+    match allot(o, &limits[..64], bids, &mut awards[..640]) {
+        Ok(Some(rate)) => rate.0 as u64,
+        Ok(None) => NO_RATE,
+        Err(_) => {
+            // The benchmark expects zeros for awards that were refused.
+            awards.fill(0);
+            EXCEEDS
+        }
     }
-    let marginal = a.marginal;
-    number_of(marginal)
 }

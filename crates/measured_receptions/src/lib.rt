@@ -10,25 +10,17 @@ use tender::{Tender, open};
 fn received(mut t: Tender, messages: &[u8], date: u64, time: u64, space: &mut [u8]) -> Tender
     requires { Given t }
 {
-    let mut at = 0;
-    while 339 <= messages.len() - at {
-        let received = t.receive(&messages[at..at + 339], date, time, space);
-        t = received.tender;
-        at += 339;
+    for message in messages.chunks_exact(339) {
+        t = t.receive(message, date, time, space).tender;
     }
     t
 }
 
 // The eurocents of all bids in a book, so that every part of it is looked at in the end.
 fn total(b: Book) -> u64 {
-    let amounts = b.amounts;
-    let mut sum: u64 = 0;
-    let mut i = 0;
-    while i < 640 {
-        sum = sum.wrapping_add(amounts[i].0);
-        i += 1;
-    }
-    sum
+    b.amounts
+        .iter()
+        .fold(0, |sum: u64, amount| sum.wrapping_add(amount.0))
 }
 
 // Opens a tender for some codes with their credit limits, receives messages of 339 bytes each, and gives the eurocents that it holds then.

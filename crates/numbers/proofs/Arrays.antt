@@ -1,16 +1,16 @@
 -- Laws of an array that the numbers of a 6G1 are stored in. Assumes nothing.
 use mathlib.Core.Path.{◌≡◌, refl, sym, ap, ◌∙◌}
 use mathlib.Core.Bool.{Bool, true, false}
-use mathlib.Core.List.{List, [], ◌∷◌, ◌++◌, append-nil}
-use Prim.Native.Nat.{ℕ, zero, suc, ◌+◌, ◌<◌}
+use mathlib.Core.List.{List, [], ◌∷◌, ◌++◌, map, append-nil, append_assoc, map-append}
+use Prim.Native.Nat.{ℕ, zero, suc, ◌+◌, ◌≤◌, ◌<◌}
 use mir.Val.{bool_byte}
 use native.Mathlib.Nat.{not-suc-le-zero, le_of_suc-le-suc}
 use native.Mathlib.Numerals.{add-one}
 use native.Mathlib.Omega.{arith}
 use lib.ListN.{length, take, drop, get_or, set, length-append, drop_of_length-le}
-use lib.Seq.{take-nil, drop-nil}
-use Rattle.output.specs.Output.{Wrote}
-use Rattle.output.proofs.Output.{then, from_start}
+use lib.Seq.{sets, take-nil, take-suc, drop-nil, sets-eq, take_at, drop_at, length-take-le}
+use Rattle.output.specs.Output.{overlay, Wrote}
+use Rattle.output.proofs.Output.{then, said, from_start}
 use Rattle.addresses.specs.declared.Address.{Address}
 use Rattle.addresses.specs.declared.Address.TheVariants.{Malformed, Code, Branch}
 use Rattle.addresses.specs.Addresses.{text_start}
@@ -23,6 +23,32 @@ use Rattle.numbers.specs.Codes.{codes_numbers, last_numbers}
 pub flag_is : (b : Bool) → bool_byte b ≡ flag b
 flag_is true = refl
 flag_is false = refl
+
+-- one more item's number
+pub each_more : {A : Type 0} {d d₁ d₂ : List ℕ} {at e₁ e₂ : ℕ} (f : A → ℕ) (l : List A) (k : ℕ) (x : A) (n : ℕ) → at ≤ length d → k < length l → x ≡ get_or l k x → n ≡ f x
+    → Wrote d at (map f (take k l)) d₁ e₁ → Wrote d₁ e₁ (n ∷ []) d₂ e₂ → Wrote d at (map f (take (k + 1) l)) d₂ e₂
+each_more {A} f l k x n h i g e v u =
+    let more : take k l ++ (x ∷ []) ≡ take (k + 1) l = ap (λ (y : A). take k l ++ (y ∷ [])) g ∙ rw add-one (sym (take-suc l k x i)) in
+    said (ap (λ (m : ℕ). map f (take k l) ++ (m ∷ [])) e ∙ sym (map-append f (take k l) (x ∷ [])) ∙ ap (map f) more) (then h v u)
+
+-- numbers that are written are stored one after the other
+pub wrote_sets : {d s d₁ : List ℕ} {at e : ℕ} → at + length s ≤ length d → Wrote d at s d₁ e → d₁ ≡ sets d at s
+unfolding overlay
+wrote_sets {d} {s} {d₁} {at} h w = w.bytes ∙ sym (sets-eq s d at h)
+
+-- two ways to say what was written
+pub wrote_same : {d s t d₁ : List ℕ} {at e : ℕ} → at ≤ length d → Wrote d at s d₁ e → Wrote d at t d₁ e → s ≡ t
+unfolding overlay
+wrote_same {d} {s} {t} {d₁} {at} h v w =
+    let part : (u : List ℕ) (l : ℕ) → length u ≡ l → take l (drop at (take at d ++ u ++ drop (at + length u) d)) ≡ u =
+    λ u l e. ap (take l) (ap (drop at) (append_assoc (take at d) u (drop (at + length u) d)) ∙ drop_at (take at d) (u ++ drop (at + length u) d) at (length-take-le at d h)) ∙ take_at u (drop (at + length u) d) l e in
+    let long : length t ≡ length s = omega (arith, v.past, w.past) in
+    sym (part s (length s) refl) ∙ ap (λ (l : List ℕ). take (length s) (drop at l)) (sym v.bytes ∙ w.bytes) ∙ part t (length s) long
+
+-- numbers that stay as they are
+pub map_same : (l : List ℕ) → map (λ (n : ℕ). n) l ≡ l
+map_same [] = refl
+map_same (n ∷ l) = ap (λ (k : List ℕ). n ∷ k) (map_same l)
 
 -- a write from the start and one after it
 pub and_then : {d s t d₁ d₂ : List ℕ} {e₁ e₂ : ℕ} → Wrote d 0 s d₁ e₁ → Wrote d₁ e₁ t d₂ e₂ → Wrote d 0 (s ++ t) d₂ e₂

@@ -9,7 +9,7 @@ use lib.Dec.{ltb}
 use lib.ListN.{length, take, drop, get_or, replicate, get_or-map, get_or-eq_default}
 use borrow.Author.Tests.{ltb-true}
 use Rattle.laws.proofs.Tests.{and_left, and_right}
-use Rattle.digits.specs.declared.Digits.TheVariants.{None}
+use Rattle.std.proofs.Common.{None}
 use Rattle.digits.specs.Decimal.{digits_of}
 use Rattle.layout.specs.Fields.{readable, content, whole}
 use Rattle.layout.proofs.ReturnTrip.{whole_of}

@@ -8,8 +8,8 @@ use native.Mathlib.Omega.{arith}
 use lib.Dec.{eqb, lit<}
 use lib.ListN.{length, take, drop}
 use borrow.Author.Tests.{lt-ltb}
-use Rattle.digits.specs.declared.Digits.{Digits}
-use Rattle.digits.specs.declared.Digits.TheVariants.{Number, None}
+use Rattle.digits.specs.Decimal.{Digits}
+use Rattle.std.proofs.Common.{Some, None}
 use Rattle.digits.specs.Decimal.{digits_of}
 use Rattle.layout.specs.Fields.{readable, offset}
 use Rattle.layout.proofs.Fields.{offset-within}
@@ -30,7 +30,7 @@ use Rattle.numbers.proofs.ByNumber.{fields_read, sender_there, recipient_there, 
 no_branch : (d : Digits) (text : ℕ) → address_numbers (code_address d) text ≡ 0 ∷ 0 ∷ 0 ∷ []
 unfolding address_numbers
 no_branch None text = refl
-no_branch (Number n) text = refl
+no_branch (Some n) text = refl
 
 short_numbers : (a : Address) (s : List ℕ) (text : ℕ) → a ≡ address_of s → length s ≡ 5 → address_numbers a text ≡ 0 ∷ 0 ∷ 0 ∷ []
 short_numbers a s text e l = ap (λ (x : Address). address_numbers x text) (e ∙ sym (five_is s l)) ∙ no_branch (digits_of s) text

@@ -1,7 +1,7 @@
 -- The fields and places of a 6G1 by their numbers, for a host in C (document 01, 'Replies and writing'). Assumes nothing.
 use Rattle.std.specs.Prelude.{Bool, true, false, cond, ◌&&◌, List, [], ◌∷◌, ℕ, ◌+◌, ltb, get_or}
-use Rattle.digits.specs.declared.Digits.{Digits}
-use Rattle.digits.specs.declared.Digits.TheVariants.{None}
+use Rattle.digits.specs.Decimal.{Digits}
+use Rattle.std.specs.Prelude.{None}
 use Rattle.layout.specs.Fields.{readable, offset}
 use Rattle.addresses.specs.Addresses.{code_digits}
 use Rattle.places.specs.declared.Place.{Place}

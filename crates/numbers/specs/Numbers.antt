@@ -1,6 +1,6 @@
 -- A 6G1 as one list of numbers, for a host in C that asks for all of it by one call (document 01, 'Replies and writing'). Assumes nothing.
 use Rattle.std.specs.Prelude.{List, [], ◌∷◌, ◌++◌, ℕ, zero, suc, ◌+◌, length, take, drop}
-use Rattle.digits.specs.declared.Digits.{Digits}
+use Rattle.digits.specs.Decimal.{Digits}
 use Rattle.digits.specs.Decimal.{is_number, number_in}
 use Rattle.addresses.specs.declared.Address.{Address}
 use Rattle.addresses.specs.declared.Address.TheVariants.{Malformed, Code, Branch}

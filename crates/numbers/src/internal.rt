@@ -1,5 +1,5 @@
 // The numbers of a readable 6G1, stored one after the other.
-ghost use Rattle.std.specs.Prelude.{◌≡◌, true, [], ◌∷◌, ◌+◌, ◌≤◌, ◌<◌, length, set};
+ghost use Rattle.std.specs.Prelude.{◌≡◌, true, [], ◌∷◌, map, ℕ, ◌+◌, ◌≤◌, ◌<◌, length, set};
 ghost use Rattle.output.specs.Output.{Wrote};
 ghost use Rattle.layout.specs.Fields.{readable};
 ghost use Rattle.envelope.specs.Application.{layout6_g1};
@@ -7,7 +7,6 @@ ghost use Rattle.numbers.specs.Numbers.{digit_numbers, place_numbers, places_num
 ghost use Rattle.numbers.specs.Codes.{codes_numbers, last_numbers};
 
 use addresses::{Address, text_start};
-use digits::{Digits, has_number, number_of};
 use envelope::application::Field;
 use envelope::internal::{
     both_short, check_of, cro_of, date_of, place_of, recipient_digits, recipient_of, sender_digits,
@@ -34,13 +33,33 @@ pub fn put_three(numbers: &mut [u64], at: usize, a: u64, b: u64, c: u64) -> usiz
     put(numbers, third, c)
 }
 
+// Writes the number of each item, one after the other.
+pub fn put_each<T: Copy, F: Fn(T) -> u64>(
+    words: &mut [u64],
+    at: usize,
+    items: &[T],
+    number: F,
+) -> usize
+    requires room { at + length items.now ≤ length words.old }
+    requires callable { F.IsAlwaysCallable number }
+    ensures past { result ≡ at + length items.now }
+    // Whatever function gives the numbers, its numbers of the items are written.
+    ensures wrote { (f : T → ℕ) → ((item : T) (n : ℕ) → F.post number item n → n ≡ f item) → Wrote words.old at (map f items.now) words.new result }
+{
+    let mut end = at;
+    for item in items {
+        end = put(words, end, number(*item));
+    }
+    end
+}
+
 // Writes the number of a digit field and whether it has one.
-fn put_number(numbers: &mut [u64], at: usize, d: Digits) -> usize
+fn put_number(numbers: &mut [u64], at: usize, d: Option<u64>) -> usize
     requires { at + 2 ≤ length numbers.old }
     ensures { Wrote numbers.old at (digit_numbers d) numbers.new result × (result ≡ at + 2) }
 {
-    let flag = put(numbers, at, number_of(d));
-    put(numbers, flag, has_number(d) as u64)
+    let flag = put(numbers, at, d.unwrap_or(0));
+    put(numbers, flag, u64::from(d.is_some()))
 }
 
 // Writes the codes of sender and recipient.
@@ -70,7 +89,13 @@ fn put_place(numbers: &mut [u64], at: usize, p: Place) -> usize
 {
     let rate = p.rate;
     let amount = p.amount;
-    put_three(numbers, at, rate.0 as u64, amount.0, p.formed as u64)
+    put_three(
+        numbers,
+        at,
+        u64::from(rate.0),
+        amount.0,
+        u64::from(p.formed),
+    )
 }
 
 // Writes the numbers of the ten places.
@@ -79,10 +104,8 @@ fn put_places(numbers: &mut [u64], at: usize, m: &[u8]) -> usize
     ensures { Wrote numbers.old at (places_numbers 10 m.now) numbers.new result × (result ≡ at + 30) }
 {
     let mut end = at;
-    let mut k = 0;
-    while k < 10 {
+    for k in 0..10 {
         end = put_place(numbers, end, place_of(m, k));
-        k += 1;
     }
     end
 }
@@ -141,10 +164,9 @@ pub fn put_all(numbers: &mut [u64], m: &[u8]) -> usize
 fn put_if_room(numbers: &mut [u64], at: usize, n: u64)
     ensures { numbers.new ≡ set numbers.old at n }
 {
-    if numbers.len() <= at {
-        return;
+    if at < numbers.len() {
+        numbers[at] = n;
     }
-    numbers[at] = n;
 }
 
 // Stores as many numbers as the array has room for. A loop that ends with the array would be
@@ -152,9 +174,7 @@ fn put_if_room(numbers: &mut [u64], at: usize, n: u64)
 pub fn put_first(numbers: &mut [u64], all: &[u64])
     ensures { numbers.new ≡ in_array all.now numbers.old }
 {
-    let mut k = 0;
-    while k < all.len() {
-        put_if_room(numbers, k, all[k]);
-        k += 1;
+    for (k, n) in all.iter().enumerate() {
+        put_if_room(numbers, k, *n);
     }
 }

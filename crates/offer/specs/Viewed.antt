@@ -4,7 +4,7 @@ use Rattle.announcement.specs.declared.Side.{Side}
 use Rattle.announcement.specs.declared.Side.TheVariants.{La, Lp}
 use Rattle.rules.specs.Allotment as rules
 use Rattle.offer.specs.declared.Offer.{Offer}
-use Rattle.offer.specs.declared.Totals.{Totals}
+use Rattle.offer.specs.declared.around.Totals.{Totals}
 
 abbrev pub viewed : Offer → rules.Offer
 viewed o = record { side = o.side; limit = o.limit.0; offered = o.offered.0 }

@@ -1,6 +1,7 @@
 // An offer, which of the bids in a book are in, and their totals by rate.
 #![tactic(auto)]
 
+pub mod around;
 pub mod internal;
 
 ghost use Rattle.std.specs.Prelude.{◌≡◌, true, ltb};
@@ -9,7 +10,8 @@ ghost use Rattle.bids.specs.Columns as columns;
 ghost use Rattle.offer.specs.Viewed.{viewed, ranks, most_bids};
 
 use announcement::Side;
-use bids::{Bid, is_filled, less};
+pub use around::Totals;
+use bids::{Bid, is_filled};
 use places::{Amount, Rate};
 
 // What allotting takes from the announcement.
@@ -18,13 +20,6 @@ pub struct Offer {
     pub side: Side,
     pub limit: Rate,
     pub offered: Amount,
-}
-
-// The totals at rates better than one, and at it.
-#[derive(Clone, Copy)]
-pub struct Totals {
-    pub better: Amount,
-    pub equal: Amount,
 }
 
 // The rank of a rate: a better rate has a lower one, so that both sides compare alike.
@@ -72,13 +67,10 @@ pub fn exceeds(amounts: &[u64]) -> bool
     ensures { result ≡ ltb most_bids (sum amounts.now) }
 {
     let mut over = false;
-    let mut left = 999_999_999_999_999_999;
-    let mut i = 0;
-    while i < amounts.len() {
-        let amount = amounts[i];
-        over = over | (left < amount);
-        left = less(left, amount);
-        i += 1;
+    let mut left = 999_999_999_999_999_999u64;
+    for amount in amounts {
+        over |= left < *amount;
+        left = left.saturating_sub(*amount);
     }
     over
 }

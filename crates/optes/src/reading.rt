@@ -7,7 +7,6 @@ ghost use Rattle.optes.specs.Interface.{answer_number, length_of};
 ghost use Rattle.digits.specs.Decimal.{is_number, number_in};
 ghost use Rattle.places.specs.Bids.{malformed};
 
-use digits::{Digits, has_number, number_of};
 use envelope::application::is_6g1;
 use envelope::internal::{
     check_of, cro_of, date_of, place_of, recipient_digits, sender_digits, time_of,
@@ -71,7 +70,7 @@ pub extern "C" fn optes_6g1_length(m: &[u8], field: u32) -> usize
 }
 
 // What a digit field holds, which for sender and recipient is their code; any other field has no number.
-fn digits_at(m: &[u8], field: u32) -> Digits
+fn digits_at(m: &[u8], field: u32) -> Option<u64>
     ensures { result ≡ field_digits field m.now }
 {
     if is_6g1(m) {
@@ -82,10 +81,10 @@ fn digits_at(m: &[u8], field: u32) -> Digits
             4 => date_of(m),
             5 => time_of(m),
             6 => check_of(m),
-            _ => Digits::None,
+            _ => None,
         };
     }
-    Digits::None
+    None
 }
 
 // 1 where the field has a number, else 0.
@@ -93,7 +92,7 @@ fn digits_at(m: &[u8], field: u32) -> Digits
 pub extern "C" fn optes_6g1_has_number(m: &[u8], field: u32) -> u32
     ensures { result ≡ flag (is_number (field_digits field m.now)) }
 {
-    flag_of(has_number(digits_at(m, field)))
+    flag_of(digits_at(m, field).is_some())
 }
 
 // The field's number.
@@ -101,7 +100,7 @@ pub extern "C" fn optes_6g1_has_number(m: &[u8], field: u32) -> u32
 pub extern "C" fn optes_6g1_number(m: &[u8], field: u32) -> u64
     ensures { result ≡ number_in (field_digits field m.now) }
 {
-    number_of(digits_at(m, field))
+    digits_at(m, field).unwrap_or(0)
 }
 
 // A place, malformed where the message has none of this number.

@@ -6,7 +6,7 @@ ghost use Rattle.envelope.specs.Application.{write, write_refusal};
 ghost use Rattle.optes.specs.Interface.{address_from, answer_number, answered, application_of, rate_of};
 
 use addresses::Address;
-use envelope::application::{Application, WriteAnswer, write};
+use envelope::application::{Application, WriteRefusal, write};
 use places::{Amount, Rate};
 
 // What 32 bits hold of a rate.
@@ -30,13 +30,13 @@ fn address(code: u64, length: u64, branch: u64, text: &[u8]) -> Address
 }
 
 // The number of an answer, 0 where nothing was refused.
-fn number(a: WriteAnswer) -> u32
-    ensures { result ≡ answer_number (write_refusal a) }
+fn number(answer: Result<(), WriteRefusal>) -> u32
+    ensures { result ≡ answer_number (write_refusal answer) }
 {
-    match a {
-        WriteAnswer::Written => 0,
-        WriteAnswer::Unfit => 17,
-        WriteAnswer::NoRoom => 18,
+    match answer {
+        Ok(()) => 0,
+        Err(WriteRefusal::Unfit) => 17,
+        Err(WriteRefusal::NoRoom) => 18,
     }
 }
 

@@ -1,10 +1,11 @@
 -- The calls in place as the calls from C: words that hold no tender, and the numbers told. Assumes nothing.
+use Rattle.std.specs.Prelude.{Result}
+use Rattle.std.specs.Prelude as prelude
 use mathlib.Core.Path.{◌≡◌, refl, sym, ap, ◌∙◌}
 use mathlib.Core.Bool.{Bool, true, false, cond, false≢true}
 use mathlib.Core.List.{List, [], ◌∷◌, ◌++◌, map}
-use mathlib.Core.Option.{Option, none, some}
+use mathlib.Core.Option.{Option}
 use Prim.Native.Nat.{ℕ, ◌-◌, ◌≤◌}
-use native.Mathlib.Nat.{sub-zero}
 use native.Mathlib.Omega.{arith}
 use lib.Dec.{leb}
 use lib.ListN.{length, take, drop, set, replicate, length-map}
@@ -12,6 +13,7 @@ use lib.Seq.{length-take-le}
 use Rattle.envelope.specs.Refusals.{unless_refused, or_zero}
 use Rattle.output.specs.Output.{Wrote}
 use Rattle.output.proofs.Output.{from_start}
+use Rattle.places.specs.declared.Rate.{Rate}
 use Rattle.rules.specs.Opening.{Admission, opening_refused, terms_of}
 use Rattle.rules.specs.Receiving.{Error}
 use Rattle.rules.specs.Calls as rules
@@ -20,20 +22,18 @@ use Rattle.errors.specs.declared.Errors.{Errors}
 use Rattle.errors.specs.Listed.{named, listed}
 use Rattle.book.proofs.Empty.{zeros_after}
 use Rattle.numbers.specs.Numbers.{in_array}
-use Rattle.terms.specs.declared.OpenAnswer.{OpenAnswer}
+use Rattle.terms.specs.declared.OpenRefusal.{OpenRefusal}
 use Rattle.terms.specs.Viewed.{open_refusal}
 use Rattle.refusals.specs.declared.Refusal.{Refusal}
-use Rattle.refusals.specs.Conditions.{refusal_number, is_some}
-use Rattle.refusals.proofs.Conditions.{kept_old}
-use Rattle.outcomes.specs.declared.internal.AllotAnswer.{AllotAnswer}
-use Rattle.outcomes.specs.Answers.{answer_in, answer_of, unless_confirmed}
+use Rattle.refusals.specs.Conditions.{refusal_number}
+use Rattle.outcomes.specs.declared.internal.Reply.{Reply}
+use Rattle.outcomes.specs.Answers.{answer_of, unless_confirmed}
 use Rattle.buffer.specs.Words.{tender_words, tender_in, is_tender}
 use Rattle.buffer_opening.specs.Opening.{held, opened_numbers, OpensIn}
 use Rattle.buffer_opening.proofs.Opened.{zeros}
 use Rattle.buffer_allotment.specs.Allotted.{allotted_in, PreviewsIn}
-use Rattle.in_place.specs.declared.internal.Told.{Told}
 use Rattle.in_place.specs.InPlace.{accepted_in, holding_of, ReceivesIn, ChangesIn, AllotsIn}
-use Rattle.optes_book.specs.Interface.{if_tender, answer_number, code_of, answer_numbers, told_of, marginal_numbers, awards_told, marginal_told, Opens, Receives, Changes, Allots, Previews}
+use Rattle.optes_book.specs.Interface.{if_tender, answer_number, code_of, answer_numbers, told_of, awards_told, marginal_told, Opens, Receives, Changes, Allots, Previews}
 use Rattle.optes_book.specs.Parts.{TellsAllotment}
 
 module _ (ws : List ℕ) {A : Type 0} (told untold : A) where
@@ -56,7 +56,7 @@ module _ (ws m : List ℕ) (a : Admission) where
         given = λ q. absurd (false≢true (sym h ∙ q));
       }
 
-  pub opens_in : leb tender_words (length ws) ≡ true → (answer : OpenAnswer) (r : ℕ) (after : List ℕ) → OpensIn ws m a answer after → r ≡ or_zero (open_refusal answer) → Opens ws m a r after
+  pub opens_in : leb tender_words (length ws) ≡ true → (answer : Result (Unit {0}) OpenRefusal) (r : ℕ) (after : List ℕ) → OpensIn ws m a answer after → r ≡ or_zero (open_refusal answer) → Opens ws m a r after
   opens_in h answer r after o e =
       record {
         equal = (λ i. ((e ∙ ap or_zero o.number) i, o.words i)) ∙ sym (ap (λ (b : Bool). cond {A = ℕ × List ℕ} b opened (100, ws)) h);
@@ -74,9 +74,9 @@ module _ (ws : List ℕ) (expected : Option ℕ × rules.Tender) (state : ℕ) w
         given = λ q. absurd (false≢true (sym h ∙ q));
       }
 
-  pub changes_in : is_tender ws ≡ true → (refusal : Refusal) (r : ℕ) (after : List ℕ) → ChangesIn ws expected state refusal after → r ≡ or_zero (refusal_number refusal) → Changes ws expected state r after
-  changes_in h refusal r after c e =
-      let number : refusal_number refusal ≡ expected.0 = ap (λ (p : Option ℕ × rules.Tender). p.0) c.equal in
+  pub changes_in : is_tender ws ≡ true → (answer : Result (Unit {0}) Refusal) (r : ℕ) (after : List ℕ) → ChangesIn ws expected state answer after → r ≡ or_zero (refusal_number answer) → Changes ws expected state r after
+  changes_in h answer r after c e =
+      let number : refusal_number answer ≡ expected.0 = ap (λ (p : Option ℕ × rules.Tender). p.0) c.equal in
       record {
         equal =
             (λ i. ((e ∙ ap or_zero number) i, (c.numbers ∙ ap (λ (l : Option ℕ). unless_refused l ws (set ws 1 state)) number) i))
@@ -101,8 +101,8 @@ module _ (ws m : List ℕ) (date time : ℕ) (space told : List ℕ) where
         given = λ q. absurd (false≢true (sym h ∙ q));
       }
 
-  pub receives_in : is_tender ws ≡ true → (t : Told) (after space₂ : List ℕ) → ReceivesIn ws m date time space t after space₂ → (r : ℕ) (told₂ : List ℕ)
-      → r ≡ answer_number (answer_of t.refusal t.errors t.length) → told₂ ≡ told_of (answer_of t.refusal t.errors t.length) told → Receives ws m date time space told r after space₂ told₂
+  pub receives_in : is_tender ws ≡ true → (t : Result Reply Refusal) (after space₂ : List ℕ) → ReceivesIn ws m date time space t after space₂ → (r : ℕ) (told₂ : List ℕ)
+      → r ≡ answer_number (answer_of t) → told₂ ≡ told_of (answer_of t) told → Receives ws m date time space told r after space₂ told₂
   receives_in h t after space₂ i r told₂ e f =
       let x = i.answers.equal in
       record {
@@ -111,30 +111,16 @@ module _ (ws m : List ℕ) (date time : ℕ) (space told : List ℕ) where
         given = λ q. i.given;
       }
 
--- the number and the numbers of a reception that is refused, and of one that is not
-pub refused-number : (l : Option ℕ) (es : List Error) (n : ℕ) → is_some l ≡ true → or_zero l ≡ answer_number (answer_in l es n)
-refused-number none es n h = absurd (false≢true h)
-refused-number (some k) es n h = refl
-
-pub refused-told : (l : Option ℕ) (es : List Error) (n : ℕ) (told : List ℕ) → is_some l ≡ true → told ≡ told_of (answer_in l es n) told
-refused-told none es n told h = absurd (false≢true h)
-refused-told (some k) es n told h = refl
-
-zero_answered : (es : List Error) (n : ℕ) → 0 ≡ answer_number (answer_to es n)
+-- the number and the numbers of a reception that is not refused
+pub zero_answered : (es : List Error) (n : ℕ) → 0 ≡ answer_number (answer_to es n)
 unfolding answer_to
 zero_answered [] n = refl
 zero_answered (e ∷ es) n = refl
 
-numbers-answered : (es : List Error) (n : ℕ) (told : List ℕ) → in_array (answer_numbers n es) told ≡ told_of (answer_to es n) told
+pub numbers-answered : (es : List Error) (n : ℕ) (told : List ℕ) → in_array (answer_numbers n es) told ≡ told_of (answer_to es n) told
 unfolding answer_to
 numbers-answered [] n told = refl
 numbers-answered (e ∷ es) n told = refl
-
-pub answered-number : (l : Option ℕ) (es : List Error) (n : ℕ) → l ≡ none → 0 ≡ answer_number (answer_in l es n)
-answered-number l es n h = zero_answered es n ∙ ap (λ (k : Option ℕ). answer_number (answer_in k es n)) (sym h)
-
-pub answered-told : (l : Option ℕ) (es : List Error) (n : ℕ) (told : List ℕ) → l ≡ none → in_array (answer_numbers n es) told ≡ told_of (answer_in l es n) told
-answered-told l es n told h = numbers-answered es n told ∙ ap (λ (k : Option ℕ). told_of (answer_in k es n) told) (sym h)
 
 codes_back : (codes : List ℕ) → map code_of (map named codes) ≡ codes
 unfolding named
@@ -142,29 +128,18 @@ codes_back [] = refl
 codes_back (c ∷ codes) = ap (λ (l : List ℕ). c ∷ l) (codes_back codes)
 
 -- the array of 18 zeros in which length, number and codes are written
-pub answer-told : (e : Errors) (n : ℕ) {after : List ℕ} {end : ℕ} → e.n ≤ 16 → length e.codes ≡ 16 → Wrote (zeros 18) 0 ((n ∷ []) ++ (e.n ∷ []) ++ take (e.n - 0) e.codes) after end → after ≡ answer_numbers n (listed e)
+pub answer-told : (e : Errors) (n : ℕ) {after : List ℕ} {end : ℕ} → e.n ≤ 16 → length e.codes ≡ 16 → Wrote (zeros 18) 0 ((n ∷ []) ++ (e.n ∷ []) ++ take e.n e.codes) after end → after ≡ answer_numbers n (listed e)
 unfolding answer_numbers
 answer-told e n few long w =
-    let first : take (e.n - 0) e.codes ≡ map code_of (listed e) = ap (λ (k : ℕ). take k e.codes) (sub-zero e.n) ∙ sym (codes_back (take e.n e.codes)) in
+    let first : take e.n e.codes ≡ map code_of (listed e) = sym (codes_back (take e.n e.codes)) in
     let count : length (listed e) ≡ e.n = length-map (take e.n e.codes) named ∙ length-take-le e.n e.codes (omega (arith, few, long)) in
     let codes : length (map code_of (listed e)) ≡ e.n = length-map (listed e) code_of ∙ count in
     w.bytes
-    ∙ from_start (zeros 18) ((n ∷ []) ++ (e.n ∷ []) ++ take (e.n - 0) e.codes)
+    ∙ from_start (zeros 18) ((n ∷ []) ++ (e.n ∷ []) ++ take e.n e.codes)
     ∙ ap (λ (l : List ℕ). n ∷ (e.n ∷ (l ++ drop (length l) (zeros 16)))) first
     ∙ ap (λ (k : ℕ). n ∷ (e.n ∷ (map code_of (listed e) ++ drop k (zeros 16)))) codes
     ∙ ap (λ (l : List ℕ). n ∷ (e.n ∷ (map code_of (listed e) ++ l))) (zeros_after e.n 16 few)
     ∙ ap (λ (k : ℕ). n ∷ (k ∷ (map code_of (listed e) ++ replicate (16 - k) 0))) (sym count)
-
--- what is told of an allotment that is refused, and of one that is not
-module _ (refusal : Refusal) (given : rules.Allotted) (awards told : List ℕ) where
-  pub tells_refused : is_some (refusal_number refusal) ≡ true → (r : ℕ) → r ≡ or_zero (refusal_number refusal) → TellsAllotment refusal given awards told r awards told
-  tells_refused h r e =
-      λ i. (e i, sym (kept_old (refusal_number refusal) awards (in_array given.awards awards) h) i, sym (kept_old (refusal_number refusal) told (in_array (marginal_numbers given.marginal) told) h) i)
-
-  pub tells_all : refusal_number refusal ≡ none → (awards₂ told₂ : List ℕ) → awards₂ ≡ in_array given.awards awards → told₂ ≡ in_array (marginal_numbers given.marginal) told
-      → TellsAllotment refusal given awards told 0 awards₂ told₂
-  tells_all h awards₂ told₂ e f =
-      (λ i. (0, e i, f i)) ∙ ap (λ (l : Option ℕ). (or_zero l, awards_told l given awards, marginal_told l given told)) (sym h)
 
 -- allotting and previewing
 module _ (ws awards told : List ℕ) where
@@ -185,7 +160,7 @@ module _ (ws awards told : List ℕ) where
   pub previews_not : is_tender ws ≡ false → Previews ws awards told 100 awards told
   previews_not h = told_not ws (previewed (rules.preview (tender_in ws))) (100, awards, told) h
 
-  module _ (h : is_tender ws ≡ true) (a : AllotAnswer) (cents : List ℕ) (r : ℕ) (awards₂ told₂ : List ℕ) (t : TellsAllotment a.refusal (allotted_in a cents) awards told r awards₂ told₂) where
+  module _ (h : is_tender ws ≡ true) (a : Result (prelude.Option Rate) Refusal) (cents : List ℕ) (r : ℕ) (awards₂ told₂ : List ℕ) (t : TellsAllotment (refusal_number a) (allotted_in a cents) awards told r awards₂ told₂) where
     pub allots_in : (after : List ℕ) → AllotsIn ws a after cents → Allots ws awards told r after awards₂ told₂
     allots_in after i =
         record {

@@ -2,14 +2,13 @@
 // the host but what its pointers say.
 #![tactic(auto)]
 
-ghost use Rattle.std.specs.Prelude.{◌≡◌, ◌+◌, ◌≤◌, length};
-ghost use Rattle.output.specs.Output.{Wrote};
+ghost use Rattle.std.specs.Prelude.{◌≡◌, ◌≤◌};
 ghost use Rattle.rules.specs.Opening.{admitting};
 ghost use Rattle.rules.specs.Calls.{close, revoke};
 ghost use Rattle.errors.specs.Listed.{listed};
 ghost use Rattle.marginal.specs.Ranks.{rate_in};
 ghost use Rattle.numbers.specs.Numbers.{in_array};
-ghost use Rattle.refusals.specs.Conditions.{state_of};
+ghost use Rattle.refusals.specs.Conditions.{state_of, refusal_number};
 ghost use Rattle.buffer.specs.Words.{tender_in};
 ghost use Rattle.buffer_allotment.specs.Allotted.{allotted_in};
 ghost use Rattle.optes_book.specs.Interface.{state_number, answer_numbers, marginal_numbers, Opens, Receives, Changes, Allots, Previews, TellsState, TellsTerms, TellsCodes, TellsLimits, TellsHeld};
@@ -22,11 +21,9 @@ use buffer_questions::internal::{tell_codes, tell_held, tell_limits, tell_terms}
 use buffer_questions::is_tender;
 use errors::Errors;
 use in_place::internal::{allot_in, close_in, receive_in, revoke_in};
-use marginal::MarginalRate;
-use numbers::internal::{put, put_first};
-use outcomes::internal::AllotAnswer;
-use refusals::{State, is_refused, number_of};
-use terms::number_of_answer;
+use numbers::internal::{put, put_each, put_first};
+use places::Rate;
+use refusals::{Refusal, State, number_of};
 
 // Opens a tender in the words.
 #[unsafe(no_mangle)]
@@ -41,29 +38,10 @@ pub extern "C" fn optes_words_open(
     if words.len() < 1560 {
         return 100;
     }
-    let answer = open_in(words, m, codes, limits);
-    number_of_answer(answer)
-}
-
-// A code of 16 bits as a number of 64 bits.
-fn wide(code: u16) -> u64
-    ensures { result ≡ code }
-{
-    code as u64
-}
-
-// Writes codes of errors.
-fn put_codes(numbers: &mut [u64], at: usize, codes: &[u16]) -> usize
-    requires { at + length codes.now ≤ length numbers.old }
-    ensures { Wrote numbers.old at codes.now numbers.new result }
-{
-    let mut end = at;
-    let mut k = 0;
-    while k < codes.len() {
-        end = put(numbers, end, wide(codes[k]));
-        k += 1;
+    match open_in(words, m, codes, limits) {
+        Ok(()) => 0,
+        Err(refusal) => terms::number_of(refusal),
     }
-    end
 }
 
 // Tells the length of the reply and the errors.
@@ -71,12 +49,10 @@ fn tell_answer(told: &mut [u64], length: usize, e: Errors)
     requires { e.n ≤ 16 }
     ensures { told.new ≡ in_array (answer_numbers length (listed e)) told.old }
 {
-    let n = e.n;
-    let codes = e.codes;
     let mut all = [0u64; 18];
     let count_at = put(&mut all, 0, length as u64);
-    let codes_at = put(&mut all, count_at, n as u64);
-    put_codes(&mut all, codes_at, &codes[0..n]);
+    let codes_at = put(&mut all, count_at, e.n as u64);
+    put_each(&mut all, codes_at, e.as_slice(), u64::from);
     put_first(told, &all);
 }
 
@@ -95,14 +71,14 @@ pub extern "C" fn optes_words_receive(
     if !is_tender(words) {
         return 100;
     }
-    let answer = receive_in(words, m, date, time, space);
-    let refusal = answer.refusal;
-    if is_refused(refusal) {
-        return number_of(refusal);
+    match receive_in(words, m, date, time, space) {
+        Ok(reply) => {
+            let errors = reply.errors;
+            tell_answer(told, reply.length, errors);
+            0
+        }
+        Err(refusal) => number_of(refusal),
     }
-    let errors = answer.errors;
-    tell_answer(told, answer.length, errors);
-    0
 }
 
 // Closes the tender.
@@ -113,32 +89,39 @@ pub extern "C" fn optes_words_close(words: &mut [u64], date: u64, time: u64) -> 
     if !is_tender(words) {
         return 100;
     }
-    let refusal = close_in(words, date, time);
-    number_of(refusal)
+    match close_in(words, date, time) {
+        Ok(()) => 0,
+        Err(refusal) => number_of(refusal),
+    }
 }
 
 // Tells the marginal rate, or that there is none.
-fn tell_marginal(told: &mut [u64], marginal: MarginalRate)
+fn tell_marginal(told: &mut [u64], marginal: Option<Rate>)
     ensures { told.new ≡ in_array (marginal_numbers (rate_in marginal)) told.old }
 {
     match marginal {
-        MarginalRate::At(rate) => put_first(told, &[1, rate.0 as u64]),
-        MarginalRate::None => put_first(told, &[0, 0]),
+        Some(rate) => put_first(told, &[1, rate.0 as u64]),
+        None => put_first(told, &[0, 0]),
     }
 }
 
 // Tells what an allotment came to, with its awards: the number of its refusal alone, or the awards and the marginal rate.
-fn tell_allotment(answer: AllotAnswer, cents: &[u64], awards: &mut [u64], told: &mut [u64]) -> u64
-    ensures { TellsAllotment answer.refusal (allotted_in answer cents.now) awards.old told.old result awards.new told.new }
+fn tell_allotment(
+    answer: Result<Option<Rate>, Refusal>,
+    cents: &[u64],
+    awards: &mut [u64],
+    told: &mut [u64],
+) -> u64
+    ensures { TellsAllotment (refusal_number answer) (allotted_in answer cents.now) awards.old told.old result awards.new told.new }
 {
-    let refusal = answer.refusal;
-    if is_refused(refusal) {
-        return number_of(refusal);
+    match answer {
+        Ok(marginal) => {
+            put_first(awards, cents);
+            tell_marginal(told, marginal);
+            0
+        }
+        Err(refusal) => number_of(refusal),
     }
-    let marginal = answer.marginal;
-    put_first(awards, cents);
-    tell_marginal(told, marginal);
-    0
 }
 
 // Allots; tells the awards of 640 places and the marginal rate.
@@ -175,8 +158,10 @@ pub extern "C" fn optes_words_revoke(words: &mut [u64]) -> u64
     if !is_tender(words) {
         return 100;
     }
-    let refusal = revoke_in(words);
-    number_of(refusal)
+    match revoke_in(words) {
+        Ok(()) => 0,
+        Err(refusal) => number_of(refusal),
+    }
 }
 
 // The number of a state.

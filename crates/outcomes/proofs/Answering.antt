@@ -1,12 +1,13 @@
 -- What a reception tells: refused, nothing; else what the rules answer. Assumes nothing.
+use Rattle.std.specs.Prelude.{Ok, Err}
 use mathlib.Core.Path.{◌≡◌, refl, sym, ap, ap₂, subst, ◌∙◌}
-use mathlib.Core.Bool.{Bool, true, false, not, ◌&&◌, false≢true}
+use mathlib.Core.Bool.{Bool, true, false, false≢true}
 use mathlib.Core.List.{List, [], ◌∷◌, ◌++◌, map}
 use mathlib.Core.Option.{Option, none, some}
 use Prim.Native.Nat.{ℕ, ◌<◌, ◌≤◌}
 use native.Mathlib.Nat.{zero-add}
 use native.Mathlib.Omega.{arith}
-use lib.Dec.{eqb, ltb}
+use lib.Dec.{ltb}
 use lib.ListN.{length, take, drop}
 use borrow.Author.Tests.{ltb-true, ltb-false, ne_eqb}
 use Rattle.output.specs.Output.{overlay, Wrote}
@@ -21,38 +22,16 @@ use Rattle.rules.proofs.Events.{kept-answered}
 use Rattle.reception.specs.Submission.{submitted}
 use Rattle.reception.proofs.Listing.{listed_none}
 use Rattle.refusals.specs.declared.Refusal.{Refusal}
-use Rattle.refusals.specs.declared.Refusal.TheVariants as refusal
-use Rattle.refusals.specs.Conditions.{refusal_number, is_some}
+use Rattle.refusals.specs.Conditions.{number_of}
 use Rattle.outcomes.specs.declared.internal.Outcome.{Outcome}
+use Rattle.outcomes.specs.declared.internal.Reply.{Reply}
 use Rattle.outcomes.specs.Outcomes.{is_held}
-use Rattle.outcomes.specs.Answers.{answer_in, errors_in, reply_length, unless_confirmed, answer_of, Answers}
+use Rattle.outcomes.specs.Answers.{errors_in, reply_length, unless_confirmed, answer_of, Answers}
 
-module _ (t : rules.Tender) (x : Reception) (f : Refusal) (e : Errors) (n : ℕ) where
-  -- the number of a refusal is a number
-  numbered : is_some (refusal_number f) ≡ true → {P : Type 0} → ((k : ℕ) → refusal_number f ≡ some k → P) → P
-  numbered s {P} then = go (refusal_number f) refl s
-    where
-      go : (l : Option ℕ) → refusal_number f ≡ l → is_some l ≡ true → P
-      go none p q = absurd (false≢true q)
-      go (some k) p q = then k p
-
-  -- refused: no errors, no reply, the tender and the space as they were
-  pub answers-refused : receiving_refused t x ≡ refusal_number f → is_some (refusal_number f) ≡ true → listed e ≡ [] → e.n ≡ 0 → n ≡ 0 → Answers (receive t x) f e n t x.space
-  unfolding receive answer_unless
-  answers-refused h s none_listed none_there zero-long =
-      numbered s
-      (λ k p.
-      let answer : answer_of f e n ≡ rules.refused k = ap (λ (l : Option ℕ). answer_in l (listed e) n) p in
-      record {
-        equal = (λ i. (answer i, t, x.space)) ∙ sym (ap (λ (l : Option ℕ). answer_unless l t x) (h ∙ p));
-        errors_are = none_listed ∙ sym (ap errors_in answer);
-        length_is = zero-long ∙ sym (ap reply_length answer);
-        few = omega (arith, none_there);
-      })
-
-  -- and whatever would change with a confirmation does not
-  pub refused_leaves : {A : Type 0} (old new : A) → is_some (refusal_number f) ≡ true → old ≡ unless_confirmed (answer_of f e n) old new
-  refused_leaves {A} old new s = numbered s (λ k p. sym (ap (λ (l : Option ℕ). unless_confirmed (answer_in l (listed e) n) old new) p))
+-- refused: the tender and the space as they were
+pub answers-refused : (t : rules.Tender) (x : Reception) (f : Refusal) → some (number_of f) ≡ receiving_refused t x → Answers (receive t x) (Err f) t x.space
+unfolding receive answer_unless
+answers-refused t x f h = record { equal = ap (λ (l : Option ℕ). answer_unless l t x) h; errors_are = tt; length_is = tt; few = tt }
 
 errors-told : (es : List Error) (n : ℕ) → es ≡ errors_in (answer_to es n)
 unfolding answer_to
@@ -78,13 +57,12 @@ some_listed codes n h = go (ltb 0 n) refl
     go false e = absurd (false≢true (sym h ∙ ap is_empty (listed_none codes n (ltb-false 0 n e))))
 
 -- a message with errors is not held
-pub not_held : (o : Outcome) → refusal_number o.refusal ≡ none → is_empty (listed o.errors) ≡ false → is_held o ≡ false
-not_held o q h =
-    ap (λ (l : Option ℕ). not (is_some l) && eqb o.errors.n 0) q ∙ ne_eqb o.errors.n 0 (λ e. omega (arith, e, some_listed o.errors.codes o.errors.n h))
+pub not_held : (o : Outcome) → is_empty (listed o.errors) ≡ false → is_held o ≡ false
+not_held o h = ne_eqb o.errors.n 0 (λ e. omega (arith, e, some_listed o.errors.codes o.errors.n h))
 
 -- what a held message changes, and one with errors does not
-pub answered_leaves : {A : Type 0} (e : Errors) (n : ℕ) (old new next : A) → (is_empty (listed e) ≡ true → next ≡ new) → (is_empty (listed e) ≡ false → next ≡ old) → next ≡ unless_confirmed (answer_of refusal.None e n) old new
-answered_leaves e n old new next k h = unchanged-told (listed e) n old new next k h
+pub answered_leaves : {A : Type 0} (r : Reply) (old new next : A) → (is_empty (listed r.errors) ≡ true → next ≡ new) → (is_empty (listed r.errors) ≡ false → next ≡ old) → next ≡ unless_confirmed (answer_of (Ok r)) old new
+answered_leaves r old new next k h = unchanged-told (listed r.errors) r.length old new next k h
 
 -- the codes of entries
 codes-entries : (es : List Entry) → book.codes_in es ≡ map entry_code es
@@ -116,7 +94,7 @@ module _ (t : rules.Tender) (x : Reception) (e : Errors) (n : ℕ) (next : List 
   unfolding answer_with
   kept-left g = subst Kept (λ i. record { terms = t.terms; state = t.state; book = sym entries i }) (kept-answered t g errors x)
 
-  pub answers-left : receiving_refused t x ≡ none → e.n ≤ 16 → Wrote x.space 0 (text (listed e)) after n → Answers (receive t x) refusal.None e n (record { terms = t.terms; state = t.state; book = next }) after
+  pub answers-left : receiving_refused t x ≡ none → e.n ≤ 16 → Wrote x.space 0 (text (listed e)) after n → Answers (receive t x) (Ok (record { errors = e; length = n })) (record { terms = t.terms; state = t.state; book = next }) after
   unfolding receive answer_unless answer_with overlay
   answers-left none_holds few wrote =
       let bytes : after ≡ in_space (text (listed e)) x.space = wrote.bytes ∙ ap (λ (k : ℕ). text (listed e) ++ drop k x.space) (zero-add (length (text (listed e)))) in

@@ -1,12 +1,12 @@
 -- What a reception tells, for a tender by value and one in place. Assumes nothing.
-use Rattle.std.specs.Prelude.{◌≡◌, List, [], ℕ, ◌≤◌}
+use Rattle.std.specs.Prelude.{◌≡◌, List, [], ℕ, ◌≤◌, Result, Ok, Err, IfOk}
 use Rattle.std.proofs.Math.Option.{Option, none, some}
 use Rattle.rules.specs.Receiving.{Error}
 use Rattle.rules.specs.Calls as rules
-use Rattle.errors.specs.declared.Errors.{Errors}
 use Rattle.errors.specs.Listed.{listed}
 use Rattle.refusals.specs.declared.Refusal.{Refusal}
-use Rattle.refusals.specs.Conditions.{refusal_number}
+use Rattle.refusals.specs.Conditions.{number_of}
+use Rattle.outcomes.specs.declared.internal.Reply.{Reply}
 
 -- a reception refused, or answered with the errors and the length of the reply
 abbrev pub answer_in : Option ℕ → List Error → ℕ → rules.Answer
@@ -30,13 +30,14 @@ unless_confirmed (rules.confirmed n) old new = new
 unless_confirmed (rules.returned es n) old new = old
 unless_confirmed (rules.refused k) old new = old
 
--- the answer that a refusal, errors and a length stand for
-abbrev pub answer_of : Refusal → Errors → ℕ → rules.Answer
-answer_of r e n = answer_in (refusal_number r) (listed e) n
+-- the answer that a refusal, or a reply with its errors and length, stands for
+abbrev pub answer_of : Result Reply Refusal → rules.Answer
+answer_of (Ok r) = answer_in none (listed r.errors) r.length
+answer_of (Err r) = answer_in (some (number_of r)) [] 0
 
 -- what a reception tells, the next tender and the reply space `after` it are what the rules expect; at most sixteen errors
-pub record Answers (expected : rules.Answer × rules.Tender × List ℕ) (r : Refusal) (e : Errors) (n : ℕ) (next : rules.Tender) (after : List ℕ) : Type 0 where
-  pub equal : (answer_of r e n, next, after) ≡ expected
-  pub errors_are : listed e ≡ errors_in (answer_of r e n)
-  pub length_is : n ≡ reply_length (answer_of r e n)
-  pub few : e.n ≤ 16
+pub record Answers (expected : rules.Answer × rules.Tender × List ℕ) (r : Result Reply Refusal) (next : rules.Tender) (after : List ℕ) : Type 0 where
+  pub equal : (answer_of r, next, after) ≡ expected
+  pub errors_are : IfOk r (λ x. listed x.errors ≡ errors_in (answer_of r))
+  pub length_is : IfOk r (λ x. x.length ≡ reply_length (answer_of r))
+  pub few : IfOk r (λ x. x.errors.n ≤ 16)

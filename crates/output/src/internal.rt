@@ -3,17 +3,15 @@
 ghost use Rattle.std.specs.Prelude.{[], ◌∷◌, ◌+◌, ◌<◌, ◌≤◌, length};
 ghost use Rattle.output.specs.Output.{Wrote};
 
-// Writes a text.
+// Writes a text. `copy_from_slice` would be compiled to a call of memmove, which the archive for C goes without.
 pub fn put(space: &mut [u8], at: usize, text: &[u8]) -> usize
     requires { at + length text.now ≤ length space.old }
     ensures { Wrote space.old at text.now space.new result }
 {
-    let mut j = 0;
-    while j < text.len() {
-        space[at + j] = text[j];
-        j += 1;
+    for (j, byte) in text.iter().enumerate() {
+        space[at + j] = *byte;
     }
-    at + j
+    at + text.len()
 }
 
 // Writes one byte.

@@ -55,13 +55,13 @@ text_more rates amounts k d e h l = rw add-one (text_suc rates amounts k d e h l
 
 -- the loop over the test of the widths: one more place, and the end
 pub fit_more : (ok : Bool) (rates : List Rate) (amounts : List Amount) (k : ℕ) (d : Rate) (e : Amount) → k < length rates → k < length amounts
-    → ((ok && ltb (get_or rates k d).0 100000000 && ltb (get_or amounts k e).0 1000000000000000) && places_fit (drop (k + 1) rates) (drop (k + 1) amounts)) ≡ (ok && places_fit (drop k rates) (drop k amounts))
+    → ((ok && (ltb (get_or rates k d).0 100000000 && ltb (get_or amounts k e).0 1000000000000000)) && places_fit (drop (k + 1) rates) (drop (k + 1) amounts)) ≡ (ok && places_fit (drop k rates) (drop k amounts))
 unfolding places_fit
 fit_more ok rates amounts k d e h l =
     let x = ltb (get_or rates k d).0 100000000 in
     let y = ltb (get_or amounts k e).0 1000000000000000 in
     let z = places_fit (drop (suc k) rates) (drop (suc k) amounts) in
-    rw (drop-cons rates k d h, drop-cons amounts k e l, add-one) (ap (λ (t : Bool). t && z) (and_assoc ok x y) ∙ and_assoc ok (x && y) z)
+    rw (drop-cons rates k d h, drop-cons amounts k e l, add-one) (and_assoc ok (x && y) z)
 
 pub fit_end : (ok : Bool) (rates : List Rate) (amounts : List Amount) (k : ℕ) → length rates ≤ k → (ok && places_fit (drop k rates) (drop k amounts)) ≡ ok
 unfolding places_fit

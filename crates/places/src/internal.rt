@@ -78,16 +78,12 @@ pub fn read_places(s: &[u8]) -> Places
     let mut formed = [false; 10];
     let mut rates = [Rate(0); 10];
     let mut amounts = [Amount(0); 10];
-    let mut k = 0;
-    while k < 10 {
+    for k in 0..10 {
         let at = 24 * k;
         let p = read_sooner(&s[at..at + 24]);
         formed[k] = p.formed;
-        let rate = p.rate;
-        rates[k] = rate;
-        let amount = p.amount;
-        amounts[k] = amount;
-        k += 1;
+        rates[k] = p.rate;
+        amounts[k] = p.amount;
     }
     Places {
         formed,
@@ -117,12 +113,8 @@ pub fn put_places(space: &mut [u8], at: usize, rates: [Rate; 10], amounts: [Amou
     ensures { Wrote space.old at (places_text rates amounts) space.new result × (result ≡ at + 240) }
 {
     let mut end = at;
-    let mut k = 0;
-    while k < 10 {
-        let rate = rates[k];
-        let amount = amounts[k];
-        end = put_place(space, end, rate, amount);
-        k += 1;
+    for k in 0..10 {
+        end = put_place(space, end, rates[k], amounts[k]);
     }
     end
 }

@@ -35,12 +35,8 @@ pub fn places_fit(rates: [Rate; 10], amounts: [Amount; 10]) -> bool
     ensures { result ≡ places_fit rates amounts }
 {
     let mut ok = true;
-    let mut k = 0;
-    while k < 10 {
-        let rate = rates[k];
-        let amount = amounts[k];
-        ok = ok & (rate.0 < 100000000) & (amount.0 < 1000000000000000);
-        k += 1;
+    for k in 0..10 {
+        ok &= (rates[k].0 < 100000000) & (amounts[k].0 < 1000000000000000);
     }
     ok
 }

@@ -1,7 +1,6 @@
 // What the programs with cases print, on standard output.
 #![tactic(auto)]
 
-use digits::Digits;
 use std::io;
 
 pub fn text(rt: &impl Print, s: &[u8]) -> io::Result<()> {
@@ -12,10 +11,10 @@ pub fn number(rt: &impl Print, n: u64) -> io::Result<()> {
     print!(rt; " {n}")
 }
 
-pub fn digits(rt: &impl Print, d: Digits) -> io::Result<()> {
+pub fn digits(rt: &impl Print, d: Option<u64>) -> io::Result<()> {
     match d {
-        Digits::Number(n) => number(rt, n),
-        Digits::None => text(rt, b" none"),
+        Some(n) => number(rt, n),
+        None => text(rt, b" none"),
     }
 }
 

@@ -5,9 +5,9 @@ use mathlib.Core.List.{List, [], ◌∷◌}
 use Prim.Native.Nat.{ℕ, suc}
 use lib.Dec.{eqb}
 use borrow.Author.Tests.{eqb-true, eqb-false, eq-eqb, ne_eqb}
+use Rattle.std.specs.Prelude.{Some}
 use Rattle.rules.specs.Opening.{any}
 use Rattle.rules.specs.Receiving.{Entry}
-use Rattle.book.specs.declared.Found.TheVariants.{At}
 use Rattle.book.specs.Viewed.{find_from, is_at, codes_in}
 
 eqb_sym : (a b : ℕ) → eqb a b ≡ eqb b a
@@ -22,6 +22,6 @@ unfolding any codes_in find_from
 admitted_is [] c i = refl
 admitted_is (e ∷ es) c i = ap (λ (t : Bool). t || any (eqb c) (codes_in es)) (eqb_sym c e.code) ∙ go (eqb e.code c) (admitted_is es c (suc i))
   where
-    go : (t : Bool) → any (eqb c) (codes_in es) ≡ is_at (find_from es c (suc i)) → (t || any (eqb c) (codes_in es)) ≡ is_at (cond t (At i) (find_from es c (suc i)))
+    go : (t : Bool) → any (eqb c) (codes_in es) ≡ is_at (find_from es c (suc i)) → (t || any (eqb c) (codes_in es)) ≡ is_at (cond t (Some i) (find_from es c (suc i)))
     go true h = refl
     go false h = h

@@ -5,6 +5,7 @@ use mathlib.Core.List.{List, [], ◌∷◌, ◌++◌, append-nil}
 use Prim.Native.Nat.{ℕ, ◌<◌}
 use lib.Dec.{eqb}
 use lib.ListN.{length}
+use Rattle.std.specs.Prelude.{Option, Some, None}
 use Rattle.texts.specs.Texts.{ascii}
 use Rattle.rules.specs.Allotment.{Bid}
 use Rattle.rules.specs.Opening.{Terms, rising}
@@ -12,8 +13,6 @@ use Rattle.rules.specs.Receiving.{Reception, Error, Entry, errors, is_empty, is_
 use Rattle.errors.specs.declared.Errors.{Errors}
 use Rattle.errors.specs.Listed.{listed}
 use Rattle.book.specs.declared.Book.{Book}
-use Rattle.book.specs.declared.Found.{Found}
-use Rattle.book.specs.declared.Found.TheVariants.{At, Absent}
 use Rattle.book.specs.Viewed.{held_at, viewed, find_from, index_of, replaced, codes_in, sound_from}
 use Rattle.book.proofs.Joining.{accepted-found, accepted_late, accepted_absent}
 use Rattle.reception.specs.Submission.{submitted, Stands}
@@ -34,7 +33,7 @@ module _ (t : Terms) (b : Book) (r : Reception) (code time : ℕ) (bids : List B
   told : (at : ℕ) (es : List Error) → listed e ≡ es → left at (listed e) (eqb e.n 0) ≡ left at es (is_empty es)
   told at es h = λ i. left at (h i) ((empty_told e.codes e.n full ∙ ap is_empty h) i)
 
-  judged_found : rising (codes_in (viewed b)) ≡ true → (at : ℕ) → find_from (viewed b) code 0 ≡ At at
+  judged_found : rising (codes_in (viewed b)) ≡ true → (at : ℕ) → find_from (viewed b) code 0 ≡ Some at
       → (taken : Bool) → taken ≡ is_after time (held_at b at) → listed e ≡ when (not taken) (ascii "601", 302)
       → left at (listed e) (eqb e.n 0) ≡ submitted t (viewed b) r
   unfolding when is_empty
@@ -45,20 +44,20 @@ module _ (t : Terms) (b : Book) (r : Reception) (code time : ℕ) (bids : List B
       told at ((ascii "601", 302) ∷ []) l
       ∙ submitted_late t (viewed b) r (sound_from code time bids) q sound (viewed b) (accepted_late b (sound_from code time bids) at rises refl found (sym h))
 
-  judged_absent : (at : ℕ) → find_from (viewed b) code 0 ≡ Absent → listed e ≡ when true (ascii "601", 302) → left at (listed e) (eqb e.n 0) ≡ submitted t (viewed b) r
+  judged_absent : (at : ℕ) → find_from (viewed b) code 0 ≡ None → listed e ≡ when true (ascii "601", 302) → left at (listed e) (eqb e.n 0) ≡ submitted t (viewed b) r
   unfolding when is_empty
   judged_absent at absent l =
       told at ((ascii "601", 302) ∷ []) l
       ∙ submitted_late t (viewed b) r (sound_from code time bids) q sound (viewed b) (accepted_absent b (sound_from code time bids) absent)
 
   -- without errors of its own
-  judged_sound : (found : Found) (taken : Bool) → Stands b code time found taken → listed e ≡ when (not taken) (ascii "601", 302) → left (index_of found) (listed e) (eqb e.n 0) ≡ submitted t (viewed b) r
-  judged_sound (At at) taken s l = judged_found s.rises at (sym s.found_is) taken s.taken_is l
-  judged_sound Absent taken s l = judged_absent 0 (sym s.found_is) (l ∙ ap (λ (x : Bool). when (not x) (ascii "601", 302)) s.taken_is)
+  judged_sound : (found : Option ℕ) (taken : Bool) → Stands b code time found taken → listed e ≡ when (not taken) (ascii "601", 302) → left (index_of found) (listed e) (eqb e.n 0) ≡ submitted t (viewed b) r
+  judged_sound (Some at) taken s l = judged_found s.rises at (sym s.found_is) taken s.taken_is l
+  judged_sound None taken s l = judged_absent 0 (sym s.found_is) (l ∙ ap (λ (x : Bool). when (not x) (ascii "601", 302)) s.taken_is)
 
 -- with errors of its own or without
 pub judged : (t : Terms) (b : Book) (r : Reception) (code time : ℕ) (bids : List Bid) (e : Errors) → 0 < length e.codes
-    → (found : Found) (taken : Bool) → Stands b code time found taken
+    → (found : Option ℕ) (taken : Bool) → Stands b code time found taken
     → (own : Errors) → 0 < length own.codes → listed own ≡ errors t r → (is_empty (errors t r) ≡ true → submission t r ≡ sound_from code time bids)
     → listed e ≡ listed own ++ when (eqb own.n 0 && not taken) (ascii "601", 302)
     → ◌≡◌ {A = List Error × List Entry} (listed e, cond (eqb e.n 0) (replaced (viewed b) (index_of found) time bids) (viewed b)) (submitted t (viewed b) r)

@@ -8,12 +8,10 @@ ghost use Rattle.rules.specs.Calls.{reply_space, reply};
 ghost use Rattle.errors.specs.Listed.{listed};
 ghost use Rattle.reception.specs.Submission.{Returns};
 
-use book::{Found, is_found};
 use checks::internal::errors_of;
 use envelope::application::{Field, Fields};
 use envelope::internal::bytes_in;
 use errors::Errors;
-use errors::internal::with;
 use replies::internal::{put_confirmation, put_returned};
 use terms::Terms;
 
@@ -23,7 +21,7 @@ pub fn returned_errors(
     m: &[u8],
     f: Fields,
     t: Terms,
-    found: Found,
+    found: Option<usize>,
     taken: bool,
     day: u64,
     second: u64,
@@ -33,9 +31,9 @@ pub fn returned_errors(
     requires second_value { (valid_date day && valid_time second) ≡ true }
     ensures { Returns t f found taken m.now day second result }
 {
-    let e = errors_of(m, t, f, is_found(found), day, second);
-    let late = (e.n == 0) & !taken;
-    with(e, late, 302)
+    let e = errors_of(m, t, f, found.is_some(), day, second);
+    let late = e.is_empty() & !taken;
+    e.with(late, 302)
 }
 
 // Writes the reply to a readable message, and gives its length.
@@ -44,7 +42,7 @@ pub fn put_reply(space: &mut [u8], m: &[u8], t: Terms, time: u64, e: Errors) -> 
     requires n_bound { (e.n ≤ 16) × (reply_space ≤ length space.old) }
     ensures { Wrote space.old 0 (reply (listed e) t.identifier m.now time) space.new result }
 {
-    if 0 < e.n {
+    if !e.is_empty() {
         return put_returned(space, m, e);
     }
     let identifier = t.identifier;

@@ -1,5 +1,5 @@
 -- The states and refusals of the code as document 01's, and the conditions that a state decides. Assumes nothing.
-use Rattle.std.specs.Prelude.{◌≡◌, Bool, true, false, List, [], ◌∷◌, ℕ}
+use Rattle.std.specs.Prelude.{◌≡◌, Bool, true, false, List, [], ◌∷◌, ℕ, Result, Ok, Err}
 use Rattle.std.proofs.Math.Option.{Option, none, some}
 use Rattle.envelope.specs.Refusals.{first_holding}
 use Rattle.rules.specs.Opening.{Admission}
@@ -21,17 +21,21 @@ state_of state.Announced = rules.Announced
 state_of state.Revoked = rules.Revoked
 
 -- document 01's number for each refusal
-abbrev pub refusal_number : Refusal → Option ℕ
-refusal_number refusal.None = none
-refusal_number refusal.Revoked = some 8
-refusal_number refusal.Over = some 9
-refusal_number refusal.ClockInvalid = some 10
-refusal_number refusal.SpaceShort = some 11
-refusal_number refusal.Unreadable = some 12
-refusal_number refusal.BeforeCutOff = some 13
-refusal_number refusal.Open = some 14
-refusal_number refusal.Announced = some 15
-refusal_number refusal.BidsExceed = some 16
+abbrev pub number_of : Refusal → ℕ
+number_of refusal.Revoked = 8
+number_of refusal.Over = 9
+number_of refusal.ClockInvalid = 10
+number_of refusal.SpaceShort = 11
+number_of refusal.Unreadable = 12
+number_of refusal.BeforeCutOff = 13
+number_of refusal.Open = 14
+number_of refusal.Announced = 15
+number_of refusal.BidsExceed = 16
+
+-- the number for the refusal in an answer, or none
+abbrev pub refusal_number : {A : Type 0} → Result A Refusal → Option ℕ
+refusal_number (Ok x) = none
+refusal_number (Err r) = some (number_of r)
 
 abbrev pub is_some : Option ℕ → Bool
 is_some none = false
@@ -54,6 +58,6 @@ abbrev pub tender_in : opening.Terms → State → List Entry → rules.Tender
 tender_in t s book = record { terms = t; state = state_of s; book = book }
 
 -- why closing is refused, whoever is admitted and whatever is held
-abbrev pub RefusesClosing : State → Terms → ℕ → ℕ → Refusal → Type 0
+abbrev pub RefusesClosing : State → Terms → ℕ → ℕ → Result (Unit {0}) Refusal → Type 0
 RefusesClosing s t date time r =
     (a : Admission) (book : List Entry) → refusal_number r ≡ rules.closing_refused (tender_in (terms.viewed t a) s book) date time

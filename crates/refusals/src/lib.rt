@@ -2,11 +2,12 @@
 #![tactic(auto)]
 
 ghost use Rattle.std.specs.Prelude.{◌≡◌, [], ◌∷◌};
-ghost use Rattle.envelope.specs.Refusals.{first_holding, or_zero};
+ghost use Rattle.envelope.specs.Refusals.{first_holding};
 ghost use Rattle.rules.specs.Calls.{clock_invalid};
-ghost use Rattle.refusals.specs.Conditions.{state_of, refusal_number, is_some, not_open, not_closed, ended, RefusesClosing};
+ghost use Rattle.refusals.specs.Conditions.{state_of, number_of, refusal_number, not_open, not_closed, ended, RefusesClosing};
 
 use calendar::{moment_later, valid_date, valid_time};
+use envelope::application::Unreadable;
 use terms::Terms;
 
 #[derive(Clone, Copy)]
@@ -17,10 +18,9 @@ pub enum State {
     Revoked,
 }
 
-// Why a call is refused, or that it is not.
-#[derive(Clone, Copy)]
+// Why a call is refused.
+#[derive(Clone, Copy, Debug, PartialEq, Eq)]
 pub enum Refusal {
-    None,
     Revoked,
     Over,
     ClockInvalid,
@@ -32,12 +32,22 @@ pub enum Refusal {
     BidsExceed,
 }
 
-// Document 01's number of a refusal, and zero where there is none.
+impl From<Unreadable> for Refusal {
+    ghost use Rattle.std.specs.Prelude.{◌≡◌};
+    ghost use Rattle.refusals.specs.declared.Refusal.TheVariants as refusal;
+
+    ghost from_gives = { λ _ r. r ≡ refusal.Unreadable };
+
+    fn from(_unreadable: Unreadable) -> Refusal {
+        Refusal::Unreadable
+    }
+}
+
+// Document 01's number of a refusal.
 pub fn number_of(r: Refusal) -> u64
-    ensures { result ≡ or_zero (refusal_number r) }
+    ensures { result ≡ number_of r }
 {
     match r {
-        Refusal::None => 0,
         Refusal::Revoked => 8,
         Refusal::Over => 9,
         Refusal::ClockInvalid => 10,
@@ -50,79 +60,59 @@ pub fn number_of(r: Refusal) -> u64
     }
 }
 
-// Whether a refusal is one.
-pub fn is_refused(r: Refusal) -> bool
-    ensures { result ≡ is_some (refusal_number r) }
-{
-    number_of(r) != 0
-}
-
-// Condition 10.
-fn clock_refusal(date: u64, time: u64) -> Refusal
+// Refuses by condition 10.
+fn clock_refusal(date: u64, time: u64) -> Result<(), Refusal>
     ensures { refusal_number result ≡ first_holding ((10, clock_invalid date time) ∷ []) }
 {
     if valid_date(date) & valid_time(time) {
-        return Refusal::None;
+        return Ok(());
     }
-    Refusal::ClockInvalid
+    Err(Refusal::ClockInvalid)
 }
 
-// Conditions 8, 9 and 10.
-pub fn not_open(state: State, date: u64, time: u64) -> Refusal
+// Refuses by conditions 8, 9 and 10.
+pub fn not_open(state: State, date: u64, time: u64) -> Result<(), Refusal>
     ensures { refusal_number result ≡ not_open (state_of state) date time }
 {
     match state {
         State::Open => clock_refusal(date, time),
-        State::Closed => Refusal::Over,
-        State::Announced => Refusal::Over,
-        State::Revoked => Refusal::Revoked,
+        State::Closed => Err(Refusal::Over),
+        State::Announced => Err(Refusal::Over),
+        State::Revoked => Err(Refusal::Revoked),
     }
 }
 
-// Conditions 8, 14 and 15.
-pub fn not_closed(state: State) -> Refusal
+// Refuses by conditions 8, 14 and 15.
+pub fn not_closed(state: State) -> Result<(), Refusal>
     ensures { refusal_number result ≡ not_closed (state_of state) }
 {
     match state {
-        State::Open => Refusal::Open,
-        State::Closed => Refusal::None,
-        State::Announced => Refusal::Announced,
-        State::Revoked => Refusal::Revoked,
+        State::Open => Err(Refusal::Open),
+        State::Closed => Ok(()),
+        State::Announced => Err(Refusal::Announced),
+        State::Revoked => Err(Refusal::Revoked),
     }
 }
 
-// Conditions 8 and 15.
-pub fn ended_refusal(state: State) -> Refusal
+// Refuses by conditions 8 and 15.
+pub fn ended_refusal(state: State) -> Result<(), Refusal>
     ensures { refusal_number result ≡ ended (state_of state) }
 {
     match state {
-        State::Open => Refusal::None,
-        State::Closed => Refusal::None,
-        State::Announced => Refusal::Announced,
-        State::Revoked => Refusal::Revoked,
+        State::Open => Ok(()),
+        State::Closed => Ok(()),
+        State::Announced => Err(Refusal::Announced),
+        State::Revoked => Err(Refusal::Revoked),
     }
 }
 
-// Condition 16.
-pub fn bids_refusal(exceeds: bool) -> Refusal
-    ensures { refusal_number result ≡ first_holding ((16, exceeds) ∷ []) }
-{
-    if exceeds {
-        return Refusal::BidsExceed;
-    }
-    Refusal::None
-}
-
-// Why closing is refused, or that it is not.
-pub fn close_refusal(state: State, terms: Terms, date: u64, time: u64) -> Refusal
+// Refuses closing: conditions 8, 9, 10 and 13.
+pub fn close_refusal(state: State, terms: Terms, date: u64, time: u64) -> Result<(), Refusal>
     ensures { RefusesClosing state terms date time result }
 {
-    let first = not_open(state, date, time);
-    if is_refused(first) {
-        return first;
-    }
+    not_open(state, date, time)?;
     if moment_later(date, time, terms.execution, terms.cutoff) {
-        return Refusal::None;
+        return Ok(());
     }
-    Refusal::BeforeCutOff
+    Err(Refusal::BeforeCutOff)
 }

@@ -8,7 +8,7 @@ use native.Mathlib.Numerals.{add-one}
 use native.Mathlib.Omega.{arith}
 use lib.Dec.{T, eqb, eqb→eq}
 use lib.ListN.{length, take, drop, get_or, set, length-append, length-map}
-use lib.Seq.{take_at, drop_at, drop-append-le, drop-drop, length-take-le, take-suc, take-suc-set, take-take}
+use lib.Seq.{take_at, drop_at, drop-drop, length-take-le, take-suc, take-suc-set, take-take}
 use borrow.Author.Tests.{le-leb, lt-leb}
 use Rattle.digits.specs.Decimal.{digits}
 use Rattle.digits.proofs.Writing.{length_digits}
@@ -99,15 +99,9 @@ unfolding slashed
 length-slashed [] = refl
 length-slashed (x ∷ xs) = simp (length-append, length_text_lem, length-slashed xs) (omega arith)
 
-pub slashed_none : (codes : List ℕ) → [] ≡ slashed (drop 1 (take 1 codes))
-unfolding slashed
-slashed_none [] = refl
-slashed_none (x ∷ xs) = refl
-
-pub slashed_more : (codes : List ℕ) (k : ℕ) → 1 ≤ k → k < length codes → slashed (drop 1 (take k codes)) ++ ascii "/" ++ error_text (named (get_or codes k 0)) ≡ slashed (drop 1 (take (k + 1) codes))
-slashed_more codes k h l =
-    let n : length (take k codes) ≡ k = length-take-le k codes (omega arith) in
-    rw (add-one, take-suc codes k 0, drop-append-le 1 (take k codes) (get_or codes k 0 ∷ []) (omega arith), slashed_snoc) (append_assoc (slashed (drop 1 (take k codes))) (ascii "/") (error_text (named (get_or codes k 0))))
+pub slashed_more : (codes : List ℕ) (k : ℕ) → k < length codes → slashed (take k codes) ++ ascii "/" ++ error_text (named (get_or codes k 0)) ≡ slashed (take (k + 1) codes)
+slashed_more codes k l =
+    rw (add-one, take-suc codes k 0, slashed_snoc) (append_assoc (slashed (take k codes)) (ascii "/") (error_text (named (get_or codes k 0))))
 
 -- the first error's text and the others are the rules' texts
 first_rest : (x : ℕ) (xs : List ℕ) → error_text (named x) ++ slashed xs ≡ error_texts (map named (x ∷ xs))
@@ -115,10 +109,9 @@ unfolding slashed error_texts
 first_rest x [] = append-nil (error_text (named x))
 first_rest x (y ∷ ys) = rw (← first_rest y ys) (sym (append_assoc (error_text (named x)) (ascii "/") (error_text (named y) ++ slashed ys)))
 
-pub texts_are : (codes : List ℕ) (n : ℕ) → 0 < n → 0 < length codes → error_text (named (get_or codes 0 0)) ++ slashed (drop 1 (take n codes)) ≡ error_texts (map named (take n codes))
-texts_are [] n h l = absurd (not-suc-le-zero l)
-texts_are (x ∷ xs) zero h l = absurd (not-suc-le-zero h)
-texts_are (x ∷ xs) (suc n) h l = first_rest x (take n xs)
+pub texts_are : (codes : List ℕ) → 0 < length codes → error_text (named (get_or codes 0 0)) ++ slashed (drop 1 codes) ≡ error_texts (map named codes)
+texts_are [] l = absurd (not-suc-le-zero l)
+texts_are (x ∷ xs) l = first_rest x xs
 
 length-texts : (codes : List ℕ) → 0 < length codes → length (error_texts (map named codes)) + 1 ≡ 10 * length codes
 length-texts [] h = absurd (not-suc-le-zero h)

@@ -1,5 +1,5 @@
 // Replies written straight from a message or its parts into a space with room for them.
-ghost use Rattle.std.specs.Prelude.{◌≡◌, ◌+◌, ◌*◌, ◌<◌, ◌≤◌, min, length, take, drop};
+ghost use Rattle.std.specs.Prelude.{◌≡◌, ◌+◌, ◌*◌, ◌<◌, ◌≤◌, map, min, length, take};
 ghost use Rattle.digits.specs.Decimal.{digits};
 ghost use Rattle.output.specs.Output.{Wrote};
 ghost use Rattle.layout.specs.Fields.{field};
@@ -60,31 +60,26 @@ fn put_text(space: &mut [u8], at: usize, code: u16) -> usize
     put_digits(space, number, 3, code as u64)
 }
 
-// Writes the texts of the errors after the first, each after a slash.
-fn put_rest(space: &mut [u8], at: usize, e: Errors) -> usize
-    requires { (0 < e.n) × (e.n ≤ 16) × (at + 10 * e.n ≤ length space.old + 10) }
-    ensures { Wrote space.old at (slashed (drop 1 (take e.n e.codes))) space.new result × (result + 10 ≡ at + 10 * e.n) }
+// Writes the texts of some errors, each after a slash.
+fn put_rest(space: &mut [u8], at: usize, codes: &[u16]) -> usize
+    requires { at + 10 * length codes.now ≤ length space.old }
+    ensures { Wrote space.old at (slashed codes.now) space.new result × (result ≡ at + 10 * length codes.now) }
 {
-    let codes = e.codes;
-    let n = e.n;
     let mut end = at;
-    let mut k = 1;
-    while k < n {
+    for &code in codes {
         let start = put_byte(space, end, b'/');
-        end = put_text(space, start, codes[k]);
-        k += 1;
+        end = put_text(space, start, code);
     }
     end
 }
 
 // Writes the texts of the errors, joined by slashes.
-fn put_texts(space: &mut [u8], at: usize, e: Errors) -> usize
-    requires { (0 < e.n) × (e.n ≤ 16) × (at + 10 * e.n ≤ length space.old + 1) }
-    ensures { Wrote space.old at (error_texts (listed e)) space.new result × (result + 1 ≡ at + 10 * e.n) }
+fn put_texts(space: &mut [u8], at: usize, codes: &[u16]) -> usize
+    requires { (0 < length codes.now) × (at + 10 * length codes.now ≤ length space.old + 1) }
+    ensures { Wrote space.old at (error_texts (map named codes.now)) space.new result × (result + 1 ≡ at + 10 * length codes.now) }
 {
-    let first = e.codes[0];
-    let rest = put_text(space, at, first);
-    put_rest(space, rest, e)
+    let rest = put_text(space, at, codes[0]);
+    put_rest(space, rest, &codes[1..])
 }
 
 // The errors that a reply shows: with over five, the fifth is 999.
@@ -92,8 +87,7 @@ fn shown(e: Errors) -> Errors
     requires { e.n ≤ 16 }
     ensures { (listed result ≡ shown (listed e)) × (result.n ≡ min e.n 5) }
 {
-    let n = e.n;
-    if n <= 5 {
+    if e.n <= 5 {
         return e;
     }
     let mut next = e;
@@ -108,7 +102,7 @@ pub fn put_errors(space: &mut [u8], at: usize, e: Errors) -> usize
     ensures { Wrote space.old at (error_texts (shown (listed e))) space.new result × (result ≤ at + 49) }
 {
     let few = shown(e);
-    put_texts(space, at, few)
+    put_texts(space, at, few.as_slice())
 }
 
 // Writes a message and after it the two fields that say its errors, which take up to 79 bytes.
@@ -121,7 +115,7 @@ pub fn put_returned(space: &mut [u8], m: &[u8], e: Errors) -> usize
     let few = shown(e);
     let n = few.n;
     let start = put_head(space, list, 0x98, 10 * n - 1);
-    put_texts(space, start, few)
+    put_texts(space, start, few.as_slice())
 }
 
 // Writes the sender and the CRO of a message as recipient and original CRO.

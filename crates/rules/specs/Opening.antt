@@ -1,10 +1,9 @@
 -- The terms of a tender and the refusals of opening (document 01, 'What a call refuses' 1 to 7; document 02, S-2). Assumes nothing.
-use Rattle.std.specs.Prelude.{Bool, true, false, not, ◌&&◌, ◌||◌, List, [], ◌∷◌, ℕ, eqb, ltb, length, replicate}
+use Rattle.std.specs.Prelude.{Bool, true, false, not, ◌&&◌, ◌||◌, List, [], ◌∷◌, ℕ, eqb, ltb, length, replicate, Some, None, is_some}
+use Rattle.std.specs.Prelude as told
 use Rattle.std.proofs.Math.Option.{Option}
 use Rattle.calendar.specs.Calendar.{valid_date, valid_time}
-use Rattle.digits.specs.declared.Digits.{Digits}
-use Rattle.digits.specs.declared.Digits.TheVariants.{Number, None}
-use Rattle.digits.specs.Decimal.{is_number, number_in}
+use Rattle.digits.specs.Decimal.{Digits, is_number, number_in}
 use Rattle.layout.specs.Fields.{readable}
 use Rattle.texts.specs.Texts.{same_text, ascii}
 use Rattle.envelope.specs.Refusals.{first_holding}
@@ -12,10 +11,9 @@ use Rattle.announcement.specs.declared.Field.TheVariants.{MessageType, Sender, I
 use Rattle.announcement.specs.declared.Side.{Side}
 use Rattle.announcement.specs.declared.Side.TheVariants.{La}
 use Rattle.announcement.specs.declared.Kind.{Kind}
-use Rattle.announcement.specs.declared.Kind.TheVariants.{Tender, Unknown}
 use Rattle.announcement.specs.declared.Characteristics.{Characteristics}
 use Rattle.announcement.specs.declared.Announcement.{Announcement}
-use Rattle.announcement.specs.Announcement.{layout6_g0, bytes_of, announcement_of, dates_ordered}
+use Rattle.announcement.specs.Announcement.{layout6_g0, bytes_of, characteristics_in, announcement_of, dates_ordered}
 use Rattle.rules.specs.Allotment.{Offer}
 
 -- 'the admitted list': the codes of those who may bid; 'Limits come with the admitted list, one a code'
@@ -53,11 +51,11 @@ pub record Terms : Type 0 where
 -- a field that is a date, a time
 abbrev pub is_date : Digits → Bool
 is_date None = false
-is_date (Number n) = valid_date n
+is_date (Some n) = valid_date n
 
 abbrev pub is_time : Digits → Bool
 is_time None = false
-is_time (Number n) = valid_time n
+is_time (Some n) = valid_time n
 
 -- a test of some element
 unfoldable pub any : {A : Type 0} → (A → Bool) → List A → Bool
@@ -80,8 +78,8 @@ well_formed a =
     && is_date a.references.date
     && is_time a.references.time
     && a.identified
-    && a.characteristics.formed
-    && valid_date a.characteristics.execution
+    && is_some a.characteristics
+    && valid_date (characteristics_in a.characteristics).execution
     && is_date a.spot
     && is_date a.forward
     && is_time a.cutoff
@@ -90,9 +88,8 @@ unfoldable pub malformed_announcement : List ℕ → Bool
 malformed_announcement m = not (well_formed (announcement_of m))
 
 -- '4. Its field 6G1 is none of the types above.'
-abbrev pub is_unknown : Kind → Bool
-is_unknown Unknown = true
-is_unknown (Tender s y) = false
+abbrev pub is_unknown : told.Option Kind → Bool
+is_unknown k = not (is_some k)
 
 unfoldable pub unknown_type : List ℕ → Bool
 unknown_type m = is_unknown (announcement_of m).kind
@@ -107,13 +104,17 @@ impossible c =
     || eqb c.increment.0 0
     || (not (eqb c.maximum.0 0) && ltb c.maximum.0 c.minimum.0)
 
+-- the numbers of the characteristics of a message
+abbrev pub characteristics_told : List ℕ → Characteristics
+characteristics_told m = characteristics_in (announcement_of m).characteristics
+
 unfoldable pub impossible_numbers : List ℕ → Bool
-impossible_numbers m = impossible (announcement_of m).characteristics
+impossible_numbers m = impossible (characteristics_told m)
 
 -- '6. The reference date is after the execution date, the spot date before it, or the forward date not after the spot date.'
 unfoldable pub dates_disordered : List ℕ → Bool
 dates_disordered m =
-    not (dates_ordered (number_in (announcement_of m).references.date) (announcement_of m).characteristics.execution (number_in (announcement_of m).spot) (number_in (announcement_of m).forward))
+    not (dates_ordered (number_in (announcement_of m).references.date) (characteristics_told m).execution (number_in (announcement_of m).spot) (number_in (announcement_of m).forward))
 
 -- '7. The admitted list is empty, over 64, not strictly rising, or has a code over 99999.'
 unfoldable pub rising : List ℕ → Bool
@@ -148,24 +149,24 @@ opening_refused m a =
     ∷ [])
 
 -- the side of a type; an unknown type opens no tender
-abbrev pub side_of : Kind → Side
-side_of Unknown = La
-side_of (Tender s y) = s
+abbrev pub side_of : told.Option Kind → Side
+side_of None = La
+side_of (Some k) = k.side
 
 unfoldable pub terms_of : List ℕ → Admission → Terms
 terms_of m a =
     record {
       identifier = bytes_of Identifier m;
       side = side_of (announcement_of m).kind;
-      execution = (announcement_of m).characteristics.execution;
+      execution = (characteristics_told m).execution;
       cut_off = number_in (announcement_of m).cutoff;
-      most = (announcement_of m).characteristics.most;
-      offered = (announcement_of m).characteristics.offered.0;
-      minimum = (announcement_of m).characteristics.minimum.0;
-      increment = (announcement_of m).characteristics.increment.0;
-      maximum = (announcement_of m).characteristics.maximum.0;
-      allocation = (announcement_of m).characteristics.allocation.0;
-      limit = (announcement_of m).characteristics.limit.0;
+      most = (characteristics_told m).most;
+      offered = (characteristics_told m).offered.0;
+      minimum = (characteristics_told m).minimum.0;
+      increment = (characteristics_told m).increment.0;
+      maximum = (characteristics_told m).maximum.0;
+      allocation = (characteristics_told m).allocation.0;
+      limit = (characteristics_told m).limit.0;
       admission = a;
     }
 

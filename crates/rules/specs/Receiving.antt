@@ -2,7 +2,7 @@
 use Rattle.std.specs.Prelude.{Bool, true, false, cond, not, ◌&&◌, List, [], ◌∷◌, ◌++◌, map, ℕ, ◌-◌, ◌%◌, eqb, leb, ltb, length, replicate, take}
 use Rattle.std.proofs.Math.Option.{Option, none, some}
 use Rattle.calendar.specs.Calendar.{valid_date, valid_time, later}
-use Rattle.digits.specs.declared.Digits.{Digits}
+use Rattle.digits.specs.Decimal.{Digits}
 use Rattle.digits.specs.Decimal.{is_number, number_in}
 use Rattle.layout.specs.Fields.{readable}
 use Rattle.addresses.specs.declared.Address.{Address}

@@ -1,11 +1,10 @@
 // The clock and the codes in the contents of a field that is long enough for them.
-ghost use Rattle.std.specs.Prelude.{◌≡◌, true, ◌+◌, ◌*◌, ◌≤◌, min, length, take, drop};
+ghost use Rattle.std.specs.Prelude.{◌≡◌, true, ◌+◌, ◌*◌, ◌≤◌, length, take, drop};
 ghost use Rattle.digits.specs.Decimal.{all_digits};
 ghost use Rattle.log_rules.specs.Steps.{date_of, time_of};
 ghost use Rattle.session_fields.specs.Codes.{group_code, codes_from};
 
 use digits::internal::number;
-use digits::{has_number, number_of};
 use words::internal::{eight, last_of_eight};
 
 // The code that five digits from an index on make.
@@ -14,7 +13,7 @@ fn code_at(s: &[u8], at: usize) -> u32
     requires s_value { all_digits s.now ≡ true }
     ensures { result ≡ group_code (take 5 (drop at s.now)) }
 {
-    number_of(number(&s[at..at + 5])) as u32
+    number(&s[at..at + 5]).unwrap_or(0) as u32
 }
 
 // The first n codes of digits.
@@ -24,23 +23,10 @@ pub fn codes_in(s: &[u8], n: usize) -> [u32; 65]
     ensures { (take n result ≡ codes_from n s.now) × (length result ≡ 65) }
 {
     let mut codes = [0u32; 65];
-    let mut i = 0;
-    while i < n {
+    for i in 0..n {
         codes[i] = code_at(s, 5 * i);
-        i += 1;
     }
     codes
-}
-
-// A number, or 65 where it is larger.
-pub fn up_to_65(n: usize) -> usize
-    ensures { (result ≡ min n 65) × (result ≤ 65) }
-{
-    let most = 65;
-    if n < most {
-        return n;
-    }
-    most
 }
 
 // The date that a field begins with; zero, which is none, where the clock is not digits.
@@ -48,8 +34,8 @@ pub fn date_of(s: &[u8]) -> u64
     requires { 14 ≤ length s.now }
     ensures { result ≡ date_of s.now }
 {
-    if has_number(last_of_eight(&s[6..14], 2)) {
-        return number_of(eight(&s[0..8]));
+    if last_of_eight(&s[6..14], 2).is_some() {
+        return eight(&s[0..8]).unwrap_or(0);
     }
     0
 }
@@ -59,5 +45,5 @@ pub fn time_of(s: &[u8]) -> u64
     requires { 14 ≤ length s.now }
     ensures { result ≡ time_of s.now }
 {
-    number_of(last_of_eight(&s[6..14], 2))
+    last_of_eight(&s[6..14], 2).unwrap_or(0)
 }

@@ -127,11 +127,7 @@ fn move_to_start(input: &mut [u8], from: usize, n: usize)
     requires { from + n ≤ length input.old }
     ensures { input.new ≡ take n (drop from input.old) ++ drop n input.old }
 {
-    let mut i = 0;
-    while i < n {
-        input[i] = input[from + i];
-        i += 1;
-    }
+    input.copy_within(from..from + n, 0);
 }
 
 // The error of a read that failed.
@@ -146,10 +142,7 @@ fn read_failed(answer: io::Result<usize>) -> Option<io::Error>
 fn count_up(n: u64, more: usize) -> u64
     ensures { result ≡ counted n more }
 {
-    if u64::MAX - n < more as u64 {
-        return u64::MAX;
-    }
-    n + more as u64
+    n.saturating_add(more as u64)
 }
 
 // Moves what waits to the start and reads once behind it; input that ends, or cannot be read, is the end.
@@ -274,7 +267,7 @@ fn log_all<R: Read, W: Write>(
     let mut codes = [0u32; 65];
     let mut words = [0u64; 1560];
     // Refused, and changes nothing: with a second caller the opening stays a call, and a turn small enough for the compiler to join it with its caller.
-    open_in(&mut words, b"", &codes[0..0], &[0u64; 0]);
+    let _ = open_in(&mut words, b"", &codes[0..0], &[0u64; 0]);
     let mut now = Turn {
         more: true,
         reads: true,

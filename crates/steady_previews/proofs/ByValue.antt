@@ -14,7 +14,7 @@ use Rattle.steadiness.proofs.Previews.{steady_previews_by_d}
 use Rattle.steady_previews.specs.ByValue.{SteadyPreviewCalls, SteadyPreviewCallsByD}
 
 module _ (t : Tender) (r : Allotted) (previews : Previews t r) where
-  accepted : refusal_number r.refusal ≡ none → (rules.preview (viewed t)).0 ≡ none
+  accepted : refusal_number r.answer ≡ none → (rules.preview (viewed t)).0 ≡ none
   accepted h = sym (ap (λ (x : Option ℕ × rules.Tender × rules.Allotted). x.0) previews.equal) ∙ h
 
   award-shown : (k : ℕ) → get_or (allotted_in r).awards k 0 ≡ get_or (rules.preview (viewed t)).2.awards k 0

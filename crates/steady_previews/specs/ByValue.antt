@@ -16,8 +16,8 @@ SteadyPreviewCallsWithin bound =
     (first second : Tender) (previewed previewed₂ : Allotted) (place d : ℕ)
     → Previews first previewed
     → Previews second previewed₂
-    → refusal_number previewed.refusal ≡ none
-    → refusal_number previewed₂.refusal ≡ none
+    → refusal_number previewed.answer ≡ none
+    → refusal_number previewed₂.answer ≡ none
     → OneRaised (viewed first) (viewed second) place d
     → (k : ℕ)
     → (k ≡ place → ⊥)

@@ -3,14 +3,9 @@ use mathlib.Core.Path.{◌≡◌, sym, ap, ◌∙◌}
 use mathlib.Core.Bool.{Bool, true, false, cond, ◌&&◌}
 use mathlib.Core.List.{List, []}
 use mathlib.Core.Option.{Option, none, some}
-use Prim.Native.Nat.{ℕ, ◌+◌, ◌*◌, ◌/◌, ◌%◌, ◌≤◌, ◌<◌, min}
-use native.Mathlib.Numerals.{add-one}
-use native.Mathlib.Omega.{arith}
+use Prim.Native.Nat.{ℕ, ◌/◌, ◌%◌, ◌≤◌, min}
 use lib.Dec.{eqb}
-use lib.ListN.{length, take, get_or, set}
-use lib.Seq.{take-suc, take-suc-set}
-use borrow.Author.Tests.{eqb-true}
-use Rattle.laws.proofs.Tests.{and_left, and_right}
+use lib.ListN.{length, take}
 use Rattle.output.proofs.Output.{nothing}
 use Rattle.digits.specs.Decimal.{all_digits}
 use Rattle.log_rules.specs.Steps.{Log, Step, admission_step, ending}
@@ -28,16 +23,6 @@ step_on l admittedCodes = elim admittedCodes [ none ↦ ending l | some codes �
 admission_is : (l : Log) (s : List ℕ) (t : Bool) → eqb (length s % 5) 0 && all_digits s ≡ t → step_on l (cond t (some (codes_from (length s / 5) s)) none) ≡ admission_step l s
 unfolding admission_step
 admission_is l s t h = sym (ap (step_on l) (admitted_are s ∙ ap (λ (b : Bool). cond b (some (codes_from (length s / 5) s)) none) h))
-
--- one code more that is put
-pub code_put : (codes first : List ℕ) (i : ℕ) → i < length codes → i < length first → take i codes ≡ take i first → take (i + 1) (set codes i (get_or first i 0)) ≡ take (i + 1) first
-code_put codes first i h k e = rw (add-one, take-suc-set codes i (get_or first i 0) h, take-suc first i 0 k, e)
-
--- the codes that are kept are digits, and there are bytes for them
-pub enough : (s : List ℕ) (n : ℕ) → eqb (length s % 5) 0 && all_digits s ≡ true → n ≡ min (length s / 5) 65 → (5 * n ≤ length s) × (all_digits s ≡ true)
-enough s n h m =
-    let five = eqb-true (length s % 5) 0 (and_left (eqb (length s % 5) 0) (all_digits s) h) in
-    (omega (arith, m, five), and_right (eqb (length s % 5) 0) (all_digits s) h)
 
 module _ (st : Standing) (codes words s space : List ℕ) (g : Given st words) where
   pub admitted : (n : ℕ) (after : List ℕ) → eqb (length s % 5) 0 && all_digits s ≡ true → n ≡ min (length s / 5) 65 → n ≤ 65 → take n after ≡ codes_from n s

@@ -1,4 +1,5 @@
 -- An announcement, accepted or refused. Assumes nothing.
+use Rattle.std.specs.Prelude.{Result, Ok, Err}
 use mathlib.Core.Path.{◌≡◌, refl, sym, ap, subst, ◌∙◌}
 use mathlib.Core.Bool.{true, false}
 use mathlib.Core.List.{List, ◌∷◌, ◌++◌}
@@ -12,10 +13,9 @@ use Rattle.output.specs.Output.{Wrote}
 use Rattle.output.proofs.Output.{nothing, said}
 use Rattle.envelope.specs.Refusals.{unless_refused, or_zero}
 use Rattle.rules.specs.Opening.{Admission, admitting, uncapped, terms_of}
-use Rattle.rules.specs.Calls.{open_tender}
-use Rattle.terms.specs.declared.OpenAnswer.{OpenAnswer}
-use Rattle.terms.specs.Viewed.{open_refusal, is_opened}
-use Rattle.terms.proofs.Forming.{opened_none, refused_some}
+use Rattle.rules.specs.Calls.{Tender, open_tender}
+use Rattle.terms.specs.declared.OpenRefusal.{OpenRefusal}
+use Rattle.terms.specs.Viewed.{open_number, open_refusal}
 use Rattle.buffer.specs.Words.{tender_words}
 use Rattle.buffer_opening.specs.Opening.{held, opened_numbers, OpensIn}
 use Rattle.log_rules.specs.Lines.{refused_line}
@@ -36,24 +36,23 @@ lent_uncapped codes n few all =
     ap (λ (k : ℕ). admitting (take k codes) (take k (replicate 65 0))) (sub-zero n)
     ∙ ap (admitting (take n codes)) (first-equal n 65 0 few ∙ ap (λ (k : ℕ). replicate k 0) (sym (length-take-le n codes (omega (arith, few, all)))))
 
-pub opens-uncapped : (words s codes : List ℕ) (n : ℕ) (a : OpenAnswer) (after : List ℕ) → n ≤ 65 → length codes ≡ 65
+pub opens-uncapped : (words s codes : List ℕ) (n : ℕ) (a : Result (Unit {0}) OpenRefusal) (after : List ℕ) → n ≤ 65 → length codes ≡ 65
     → OpensIn words s (admitting (take (n - 0) codes) (take (n - 0) (replicate 65 0))) a after → OpensIn words s (uncapped (take n codes)) a after
 opens-uncapped words s codes n a after few all o = subst (λ (x : Admission). OpensIn words s x a after) (lent_uncapped codes n few all) o
 
-module _ (st : Standing) (codes words s space : List ℕ) (g : Given st words) (a : OpenAnswer) (after : List ℕ) (o : OpensIn words s (uncapped (take st.n codes)) a after) where
-  -- opening by the refusal that it answers with
-  opening_is : open_tender s (uncapped (take st.n codes)) ≡ (open_refusal a, (open_tender s (uncapped (take st.n codes))).1)
-  unfolding open_tender
-  opening_is = λ i. (sym o.number i, (open_tender s (uncapped (take st.n codes))).1)
+module _ (st : Standing) (codes words s space : List ℕ) (g : Given st words) (after : List ℕ) where
+  abbrev opened : Option ℕ × Tender
+  opened = open_tender s (uncapped (take st.n codes))
 
-  step_is : (l : Option ℕ) → open_refusal a ≡ l → opened_step (viewed st codes words) (l, (open_tender s (uncapped (take st.n codes))).1) ≡ announcement_step (viewed st codes words) s
-  unfolding announcement_step
-  step_is l e = sym (ap (opened_step (viewed st codes words)) (opening_is ∙ λ i. (e i, (open_tender s (uncapped (take st.n codes))).1)))
+  -- the step of an opening, by the refusal that it answers with
+  step_is : (a : Result (Unit {0}) OpenRefusal) → OpensIn words s (uncapped (take st.n codes)) a after → opened_step (viewed st codes words) (open_refusal a, opened.1) ≡ announcement_step (viewed st codes words) s
+  unfolding announcement_step open_tender
+  step_is a o = λ i. opened_step (viewed st codes words) (o.number i, opened.1)
 
-  pub announced : is_opened a ≡ true → Takes (announcement_step (viewed st codes words) s) space (record { standing = record { ended = false; opened = true; n = st.n }; length = 0 }) codes after space
-  announced h =
-      let none_there = sym o.number ∙ opened_none a h in
-      takes_as (step_is none (opened_none a h))
+  pub announced : OpensIn words s (uncapped (take st.n codes)) (Ok tt) after → Takes (announcement_step (viewed st codes words) s) space (record { standing = record { ended = false; opened = true; n = st.n }; length = 0 }) codes after space
+  announced o =
+      let none_there = sym o.number in
+      takes_as (step_is (Ok tt) o)
       (record {
         state = λ i. record { ended = false; codes = (all-kept st codes words g i); tender = some (sym (o.tender none_there) i) };
         lines = nothing space 0;
@@ -61,10 +60,9 @@ module _ (st : Standing) (codes words s space : List ℕ) (g : Given st words) (
       })
 
   -- refused, every word is as it was
-  pub not_announced : (left : List ℕ) (n : ℕ) → is_opened a ≡ false → Wrote space 0 (refused_line (or_zero (open_refusal a))) left n → Takes (announcement_step (viewed st codes words) s) space (record { standing = st; length = n }) codes after left
-  not_announced left n h w =
-      let k = refused_some a h in
-      let same : after ≡ words = o.words ∙ ap (λ (l : Option ℕ). unless_refused l words (opened_numbers (held (terms_of s (uncapped (take st.n codes)))) (uncapped (take st.n codes)) ++ drop tender_words words)) (sym o.number ∙ k.1) in
+  pub not_announced : (f : OpenRefusal) (left : List ℕ) (n : ℕ) → OpensIn words s (uncapped (take st.n codes)) (Err f) after → Wrote space 0 (refused_line (open_number f)) left n
+      → Takes (announcement_step (viewed st codes words) s) space (record { standing = st; length = n }) codes after left
+  not_announced f left n o w =
+      let same : after ≡ words = o.words ∙ ap (λ (l : Option ℕ). unless_refused l words (opened_numbers (held (terms_of s (uncapped (take st.n codes)))) (uncapped (take st.n codes)) ++ drop tender_words words)) (sym o.number) in
       subst (λ (x : List ℕ). Takes (announcement_step (viewed st codes words) s) space (record { standing = st; length = n }) codes x left) (sym same)
-      (takes_as (step_is (some k.0) k.1)
-      (takes-nothing st codes words space (refused_line k.0) left n g (said (ap (λ (l : Option ℕ). refused_line (or_zero l)) k.1) w)))
+      (takes_as (step_is (Err f) o) (takes-nothing st codes words space (refused_line (open_number f)) left n g w))

@@ -1,15 +1,17 @@
 -- The lines of an allotment: that of a refusal, or those of the awards, to which places of absent codes add none. Assumes nothing.
+use Rattle.std.specs.Prelude.{Result, Ok}
+use Rattle.std.specs.Prelude as prelude
 use mathlib.Core.Path.{◌≡◌, refl, sym, ap, ap₂, ◌∙◌}
-use mathlib.Core.Bool.{cond, true, false, false≢true}
+use mathlib.Core.Bool.{cond, true}
 use mathlib.Core.List.{List, [], ◌∷◌, ◌++◌, map}
-use mathlib.Core.Option.{Option, none, some}
+use mathlib.Core.Option.{Option}
 use Prim.Native.Nat.{ℕ, zero, suc, ◌+◌, ◌*◌, ◌-◌, ◌≤◌}
 use native.Mathlib.Nat.{sub-zero}
 use native.Mathlib.Omega.{arith}
 use lib.Dec.{ltb}
 use lib.ListN.{length, take, drop, get_or, length-append, length-drop}
 use lib.Seq.{drop-append-le, take-take}
-use Rattle.envelope.specs.Refusals.{or_zero}
+use Rattle.places.specs.declared.Rate.{Rate}
 use Rattle.rules.specs.Allotment.{Bid}
 use Rattle.rules.specs.Receiving.{Entry}
 use Rattle.rules.specs.Calls.{Tender, Allotted, bids_in_book}
@@ -17,15 +19,15 @@ use Rattle.bids.specs.Columns.{bids_of}
 use Rattle.book.specs.Viewed.{up_to64, viewed, codes_in}
 use Rattle.book.proofs.Empty.{up_to64_stays}
 use Rattle.book.proofs.Order.{codes-viewed}
-use Rattle.marginal.specs.Ranks.{rate_in}
-use Rattle.refusals.specs.Conditions.{is_some, refusal_number}
-use Rattle.outcomes.specs.declared.internal.AllotAnswer.{AllotAnswer}
+use Rattle.refusals.specs.declared.Refusal.{Refusal}
+use Rattle.refusals.specs.Conditions.{refusal_number}
+use Rattle.outcomes.specs.Allotting.{marginal_in}
 use Rattle.buffer.specs.Words.{part, low32, book_in, tender_in, is_tender}
 use Rattle.buffer.proofs.Words.{known, sized}
 use Rattle.in_place.specs.InPlace.{AllotsIn}
 use Rattle.buffer_allotment.proofs.Lent.{bids_lent}
 use Rattle.award_lines.proofs.Places.{length_in_book}
-use Rattle.log_rules.specs.Lines.{refused_line, award_line, place_lines, award_lines}
+use Rattle.log_rules.specs.Lines.{award_line, place_lines, award_lines}
 use Rattle.log_rules.specs.Steps.{awards_line, allotted}
 
 place_lines_lem : (code place : ℕ) (bs : List Bid) (xs rest : List ℕ) → length bs ≤ length xs → place_lines code place bs (xs ++ rest) ≡ place_lines code place bs xs
@@ -46,23 +48,17 @@ no_more_lines (e ∷ es) xs rest h =
     (ap (award_lines es) (drop-append-le (length e.bids) xs rest (omega (arith, h, n))) ∙ no_more_lines es (drop (length e.bids) xs) rest (omega (arith, h, n, d)))
 
 -- the lines by the refusal, where the book is that of the words after
-module _ (ws : List ℕ) (r : AllotAnswer) (after awards : List ℕ) (a : AllotsIn ws r after awards) where
-  abbrev answer : Option ℕ → Option ℕ × Tender × Allotted
-  answer l = (l, tender_in after, record { awards = awards; marginal = rate_in r.marginal })
-
-  lines_are : (l : Option ℕ) → refusal_number r.refusal ≡ l → awards_line (answer l) ≡ (allotted (tender_in ws)).1
-  lines_are l e = ap (λ (x : Option ℕ). awards_line (answer x)) (sym e) ∙ ap awards_line a.equal
-
+module _ (ws : List ℕ) (r : Result (prelude.Option Rate) Refusal) (after awards : List ℕ) (a : AllotsIn ws r after awards) where
   pub tender-allotted : (allotted (tender_in ws)).0 ≡ tender_in after
   tender-allotted = sym (ap (λ (p : Option ℕ × Tender × Allotted). p.1) a.equal)
 
-  pub lines-refused : (l : Option ℕ) → refusal_number r.refusal ≡ l → is_some l ≡ true → refused_line (or_zero l) ≡ (allotted (tender_in ws)).1
-  lines-refused none e h = absurd (false≢true h)
-  lines-refused (some n) e h = lines_are (some n) e
+  pub lines_are : awards_line (refusal_number r, tender_in after, record { awards = awards; marginal = marginal_in r }) ≡ (allotted (tender_in ws)).1
+  lines_are = ap awards_line a.equal
 
-  pub lines-awarded : (l : Option ℕ) → refusal_number r.refusal ≡ l → is_some l ≡ false → (xs rest : List ℕ) → xs ++ rest ≡ awards → length (bids_in_book (viewed (book_in after))) ≤ length xs → award_lines (viewed (book_in after)) xs ≡ (allotted (tender_in ws)).1
-  lines-awarded (some n) e h xs rest q long = absurd (false≢true (sym h))
-  lines-awarded none e h xs rest q long = sym (no_more_lines (viewed (book_in after)) xs rest long) ∙ ap (award_lines (viewed (book_in after))) q ∙ lines_are none e
+pub lines-awarded : (ws : List ℕ) (m : prelude.Option Rate) (after awards : List ℕ) → AllotsIn ws (Ok m) after awards → (xs rest : List ℕ) → xs ++ rest ≡ awards → length (bids_in_book (viewed (book_in after))) ≤ length xs
+    → award_lines (viewed (book_in after)) xs ≡ (allotted (tender_in ws)).1
+lines-awarded ws m after awards a xs rest q long =
+    sym (no_more_lines (viewed (book_in after)) xs rest long) ∙ ap (award_lines (viewed (book_in after))) q ∙ lines_are ws (Ok m) after awards a
 
 map-take : (f : ℕ → ℕ) (n : ℕ) (l : List ℕ) → map f (take n l) ≡ take n (map f l)
 map-take f zero l = refl

@@ -1,6 +1,7 @@
 -- What taking a field promises, in the cases of the code: it ends the log, is skipped, or calls the tender. Assumes nothing.
+use Rattle.std.specs.Prelude.{Result}
 use mathlib.Core.Path.{◌≡◌, refl, sym, ap, subst, ◌∙◌}
-use mathlib.Core.Bool.{Bool, true, false, cond, false≢true}
+use mathlib.Core.Bool.{Bool, true, false, cond}
 use mathlib.Core.List.{List, []}
 use mathlib.Core.Option.{Option, none, some}
 use Prim.Native.Nat.{ℕ}
@@ -11,13 +12,11 @@ use lib.Seq.{take_all}
 use borrow.Author.Tests.{eq-eqb, ne_eqb}
 use Rattle.output.specs.Output.{Wrote}
 use Rattle.output.proofs.Output.{nothing, said}
-use Rattle.envelope.specs.Refusals.{or_zero}
 use Rattle.rules.specs.Calls.{Tender}
 use Rattle.buffer.specs.Words.{tender_in}
-use Rattle.log_rules.specs.Lines.{refused_line}
 use Rattle.log_rules.specs.Steps.{Log, Step, ending, on_tender, refusal, admission_step, announcement_step, reception_step, closing_step, revocation_step, allotting_step, step}
 use Rattle.refusals.specs.declared.Refusal.{Refusal}
-use Rattle.refusals.specs.Conditions.{is_some, refusal_number}
+use Rattle.refusals.specs.Conditions.{refusal_number}
 use Rattle.in_place.specs.InPlace.{ChangesIn}
 use Rattle.steps.specs.declared.Standing.{Standing}
 use Rattle.steps.specs.declared.Taken.{Taken}
@@ -106,7 +105,7 @@ module _ (st : Standing) (codes words space : List ℕ) where
       })
 
 -- a call that is refused, or puts the tender into a state
-pub called_by : (call : Tender → Option ℕ × Tender) (words after space left : List ℕ) (n : ℕ) (r : Refusal) (w : ℕ) → ChangesIn words (call (tender_in words)) w r after → Wrote space 0 (refusal (refusal_number r)) left n
+pub called_by : (call : Tender → Option ℕ × Tender) (words after space left : List ℕ) (n : ℕ) (r : Result (Unit {0}) Refusal) (w : ℕ) → ChangesIn words (call (tender_in words)) w r after → Wrote space 0 (refusal (refusal_number r)) left n
     → Calls (λ (t : Tender). ((call t).1, refusal (call t).0)) words space after n left
 called_by call words after space left n r w c wrote =
     record {
@@ -114,12 +113,3 @@ called_by call words after space left n r w c wrote =
       lines = said (ap (λ (p : Option ℕ × Tender). refusal p.0) c.equal) wrote;
       given = c.given;
     }
-
--- the line of a refusal, and none where there is none
-pub refusal_some : (l : Option ℕ) → is_some l ≡ true → refused_line (or_zero l) ≡ refusal l
-refusal_some none h = absurd (false≢true h)
-refusal_some (some n) h = refl
-
-pub refusal_none : (l : Option ℕ) → is_some l ≡ false → [] ≡ refusal l
-refusal_none none h = refl
-refusal_none (some n) h = absurd (false≢true (sym h))

@@ -1,5 +1,5 @@
 // One kind of field each: what it makes of the codes and the words, and its lines.
-ghost use Rattle.std.specs.Prelude.{◌≡◌, true, List, ℕ, ◌≤◌, length, take};
+ghost use Rattle.std.specs.Prelude.{◌≡◌, true, List, ℕ, ◌≤◌, length};
 ghost use Rattle.output.specs.Output.{Wrote};
 ghost use Rattle.refusals.specs.Conditions.{refusal_number};
 ghost use Rattle.buffer.specs.Words.{tender_words, tender_in, is_tender};
@@ -13,9 +13,8 @@ use buffer_opening::internal::open_in;
 use digits::all_digits;
 use in_place::internal::{allot_in, close_in, leave_in, outcome_in, revoke_in};
 use lines::internal::put_refused;
-use refusals::{Refusal, is_refused};
-use session_fields::internal::{codes_in, date_of, time_of, up_to_65};
-use terms::{is_opened, number_of_answer};
+use refusals::Refusal;
+use session_fields::internal::{codes_in, date_of, time_of};
 
 // A field that ends the log.
 pub fn ended(standing: Standing) -> Taken
@@ -24,22 +23,9 @@ pub fn ended(standing: Standing) -> Taken
     Taken {
         standing: Standing {
             ended: true,
-            opened: standing.opened,
-            n: standing.n,
+            ..standing
         },
         length: 0,
-    }
-}
-
-// Puts codes over the first ones.
-fn put_codes(codes: &mut [u32], first: &[u32])
-    requires { length first.now ≤ length codes.old }
-    ensures { take (length first.now) codes.new ≡ first.now }
-{
-    let mut i = 0;
-    while i < first.len() {
-        codes[i] = first[i];
-        i += 1;
     }
 }
 
@@ -49,9 +35,9 @@ pub fn admission(standing: Standing, codes: &mut [u32], s: &[u8]) -> Taken
     ensures { (words space : List ℕ) → Given standing words → Takes (admission_step (viewed standing codes.old words) s.now) space result codes.new words space }
 {
     if (s.len() % 5 == 0) & all_digits(s) {
-        let n = up_to_65(s.len() / 5);
+        let n = (s.len() / 5).min(65);
         let admitted = codes_in(s, n);
-        put_codes(codes, &admitted[0..n]);
+        codes[..n].copy_from_slice(&admitted[..n]);
         return Taken {
             standing: Standing {
                 ended: false,
@@ -78,19 +64,20 @@ pub fn announcement(
 {
     let n = standing.n;
     let zeros = [0u64; 65];
-    let answer = open_in(words, s, &codes[0..n], &zeros[0..n]);
-    if is_opened(answer) {
-        return Taken {
+    match open_in(words, s, &codes[0..n], &zeros[0..n]) {
+        Ok(()) => Taken {
             standing: Standing {
                 ended: false,
                 opened: true,
                 n,
             },
             length: 0,
-        };
+        },
+        Err(refusal) => {
+            let length = put_refused(space, terms::number_of(refusal));
+            Taken { standing, length }
+        }
     }
-    let length = put_refused(space, number_of_answer(answer));
-    Taken { standing, length }
 }
 
 // A2: a reception.
@@ -110,23 +97,29 @@ pub fn reception(standing: Standing, words: &mut [u64], s: &[u8], space: &mut [u
         };
     }
     let m = &s[14..s.len()];
-    let outcome = outcome_in(words, m, date_of(s), time_of(s), 436);
-    let refusal = outcome.refusal;
-    let errors = outcome.errors;
-    let length = put_answer(space, s, m, refusal, errors);
-    leave_in(words, outcome);
-    Taken { standing, length }
+    match outcome_in(words, m, date_of(s), time_of(s), 436) {
+        Ok(outcome) => {
+            let errors = outcome.errors;
+            let length = put_answer(space, s, m, errors);
+            leave_in(words, outcome);
+            Taken { standing, length }
+        }
+        Err(refusal) => {
+            let length = put_refused(space, refusals::number_of(refusal));
+            Taken { standing, length }
+        }
+    }
 }
 
 // Writes the line of a refusal; where a call is not refused there is none.
-fn put_refusal(space: &mut [u8], r: Refusal) -> usize
+fn put_refusal(space: &mut [u8], answer: Result<(), Refusal>) -> usize
     requires { 11 ≤ length space.old }
-    ensures { Wrote space.old 0 (refusal (refusal_number r)) space.new result }
+    ensures { Wrote space.old 0 (refusal (refusal_number answer)) space.new result }
 {
-    if is_refused(r) {
-        return put_refused(space, refusals::number_of(r));
+    match answer {
+        Ok(()) => 0,
+        Err(r) => put_refused(space, refusals::number_of(r)),
     }
-    0
 }
 
 // A3: closing.
@@ -144,8 +137,8 @@ pub fn closing(standing: Standing, words: &mut [u64], s: &[u8], space: &mut [u8]
             length: 0,
         };
     }
-    let refusal = close_in(words, date_of(s), time_of(s));
-    let length = put_refusal(space, refusal);
+    let answer = close_in(words, date_of(s), time_of(s));
+    let length = put_refusal(space, answer);
     Taken { standing, length }
 }
 
@@ -164,8 +157,8 @@ pub fn revocation(standing: Standing, words: &mut [u64], s: &[u8], space: &mut [
             length: 0,
         };
     }
-    let refusal = revoke_in(words);
-    let length = put_refusal(space, refusal);
+    let answer = revoke_in(words);
+    let length = put_refusal(space, answer);
     Taken { standing, length }
 }
 
@@ -175,10 +168,8 @@ fn put_allotment(words: &mut [u64], space: &mut [u8]) -> usize
     ensures { Calls allotted words.old space.old words.new result space.new }
 {
     let mut awards = [0u64; 640];
-    let answer = allot_in(words, &mut awards);
-    let refusal = answer.refusal;
-    if is_refused(refusal) {
-        return put_refused(space, refusals::number_of(refusal));
+    if let Err(r) = allot_in(words, &mut awards) {
+        return put_refused(space, refusals::number_of(r));
     }
     let n = words[2] as usize;
     put_awards(

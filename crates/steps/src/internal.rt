@@ -1,12 +1,10 @@
 // The line of a reception, and one field of any kind.
 ghost use Rattle.std.specs.Prelude.{◌≡◌, true, ℕ, ◌≤◌, length, drop};
-ghost use Rattle.std.proofs.Math.Option.{none};
 ghost use Rattle.output.specs.Output.{Wrote};
+ghost use Rattle.rules.specs.Calls.{answer_to};
 ghost use Rattle.layout.specs.Fields.{readable};
 ghost use Rattle.envelope.specs.Application.{layout6_g1};
 ghost use Rattle.errors.specs.Listed.{listed};
-ghost use Rattle.refusals.specs.Conditions.{refusal_number};
-ghost use Rattle.outcomes.specs.Answers.{answer_in};
 ghost use Rattle.buffer.specs.Words.{tender_words};
 ghost use Rattle.log_rules.specs.Steps.{answer_line, step};
 ghost use Rattle.steps.specs.Viewed.{viewed, Ready, Takes};
@@ -14,19 +12,15 @@ ghost use Rattle.steps.specs.Viewed.{viewed, Ready, Takes};
 use crate::fields::{admission, allotting, announcement, closing, ended, reception, revocation};
 use crate::{Standing, Taken};
 use errors::Errors;
-use lines::internal::{put_confirmed, put_refused, put_returned};
-use refusals::{Refusal, is_refused};
+use lines::internal::{put_confirmed, put_returned};
 
-// Writes the line of a reception.
-pub fn put_answer(space: &mut [u8], s: &[u8], m: &[u8], r: Refusal, e: Errors) -> usize
-    requires m_value { refusal_number r ≡ none → readable layout6_g1 m.now ≡ true }
+// Writes the line of a reception that is not refused.
+pub fn put_answer(space: &mut [u8], s: &[u8], m: &[u8], e: Errors) -> usize
+    requires m_value { readable layout6_g1 m.now ≡ true }
     requires n_bound { (e.n ≤ 16) × (14 ≤ length s.now) × (74 ≤ length space.old) }
     requires m_value_2 { m.now ≡ drop 14 s.now }
-    ensures { (k : ℕ) → Wrote space.old 0 (answer_line (answer_in (refusal_number r) (listed e) k) s.now) space.new result }
+    ensures { (k : ℕ) → Wrote space.old 0 (answer_line (answer_to (listed e) k) s.now) space.new result }
 {
-    if is_refused(r) {
-        return put_refused(space, refusals::number_of(r));
-    }
     if e.n == 0 {
         return put_confirmed(space, s, m);
     }

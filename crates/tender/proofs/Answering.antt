@@ -1,8 +1,9 @@
 -- What a reception gives: refused, nothing; else what the rules answer. Assumes nothing.
-use mathlib.Core.Path.{◌≡◌, refl, sym, ap, subst, ◌∙◌}
-use mathlib.Core.Bool.{true, false}
-use mathlib.Core.List.{List, []}
-use mathlib.Core.Option.{none}
+use Rattle.std.specs.Prelude.{Ok, Err}
+use mathlib.Core.Path.{◌≡◌, refl, sym, ap, subst}
+use mathlib.Core.Bool.{false}
+use mathlib.Core.List.{List}
+use mathlib.Core.Option.{none, some}
 use Prim.Native.Nat.{ℕ, ◌≤◌}
 use Rattle.output.specs.Output.{Wrote}
 use Rattle.rules.specs.Opening.{admitting}
@@ -16,26 +17,18 @@ use Rattle.terms.specs.Viewed as terms
 use Rattle.book.specs.declared.Book.{Book}
 use Rattle.book.specs.Viewed as book
 use Rattle.reception.specs.Submission.{submitted}
-use Rattle.refusals.specs.declared.Refusal.TheVariants as refusal
-use Rattle.refusals.specs.Conditions.{refusal_number, is_some}
+use Rattle.refusals.specs.declared.Refusal.{Refusal}
+use Rattle.refusals.specs.Conditions.{number_of}
 use Rattle.outcomes.specs.Answers.{Answers}
-use Rattle.outcomes.proofs.Answering.{answers-refused, refused_leaves, answered_leaves, codes-left, kept-left, answers-left}
+use Rattle.outcomes.proofs.Answering.{answers-refused, answered_leaves, codes-left, kept-left, answers-left}
 use Rattle.tender.specs.declared.Tender.{Tender}
-use Rattle.tender.specs.declared.Received.{Received}
 use Rattle.tender.specs.Viewed.{viewed, Given, tender_of}
 use Rattle.tender.specs.Calls.{Receives}
 
--- refused: no errors, no reply, the tender and the space as they were
-pub receives-refused : (t : Tender) → Given t → (x : Reception) (r : Received) → listed r.errors ≡ [] → r.errors.n ≡ 0 → r.length ≡ 0 → r.tender ≡ t
-    → receiving_refused (viewed t) x ≡ refusal_number r.refusal → is_some (refusal_number r.refusal) ≡ true → Receives t (receive (viewed t) x) r x.space
-receives-refused t g x r none_listed none_there zero-long same h s =
-    record {
-      answers =
-          subst (λ (u : Tender). Answers (receive (viewed t) x) r.refusal r.errors r.length (viewed u) x.space) (sym same)
-          (answers-refused (viewed t) x r.refusal r.errors r.length h s none_listed none_there zero-long);
-      unchanged = same ∙ refused_leaves (viewed t) x r.refusal r.errors r.length t r.tender s;
-      given = subst Given (sym same) g;
-    }
+-- refused: the tender and the space as they were
+pub receives-refused : (t : Tender) → Given t → (x : Reception) (f : Refusal) → some (number_of f) ≡ receiving_refused (viewed t) x
+    → Receives t (receive (viewed t) x) (record { answer = Err f; tender = t }) x.space
+receives-refused t g x f h = record { answers = answers-refused (viewed t) x f h; unchanged = refl; given = g }
 
 -- not refused: what the message left in the book, and its reply
 module _ (t : Tender) (g : Given t) (x : Reception) (e : Errors) (n : ℕ) (next : Book) (after : List ℕ)
@@ -52,12 +45,12 @@ module _ (t : Tender) (g : Given t) (x : Reception) (e : Errors) (n : ℕ) (next
 
   pub receives-answered : receiving_refused (viewed t) x ≡ none → (is_empty (listed e) ≡ false → next ≡ t.book) → e.n ≤ 16
       → Wrote x.space 0 (reply (listed e) t.terms.identifier x.message x.time) after n
-      → Receives t (receive (viewed t) x) (record { refusal = refusal.None; errors = e; length = n; tender = tender }) after
+      → Receives t (receive (viewed t) x) (record { answer = Ok (record { errors = e; length = n }); tender = tender }) after
   receives-answered none_holds same few wrote =
       record {
         answers =
-            subst (λ (u : rules.Tender). Answers (receive (viewed t) x) refusal.None e n u after) (sym tender_is)
+            subst (λ (u : rules.Tender). Answers (receive (viewed t) x) (Ok (record { errors = e; length = n })) u after) (sym tender_is)
             (answers-left (viewed t) x e n (book.viewed next) after left none_holds few wrote);
-        unchanged = answered_leaves e n t tender tender (λ k. refl) (λ h. ap (tender_of t.state t.terms) (same h));
+        unchanged = answered_leaves (record { errors = e; length = n }) t tender tender (λ k. refl) (λ h. ap (tender_of t.state t.terms) (same h));
         given = subst Kept (sym tender_is) (kept-left (viewed t) x e n (book.viewed next) after left g);
       }

@@ -36,17 +36,17 @@ module _ (m : List ℕ) (a : Admission) (rs : List Reception) (date time : ℕ) 
   last_is : viewed run.last ≡ after_receptions m a rs
   last_is = received-last m a rs opened run.last run.opens run.receives
 
-  closing_is : (refusal_number closed.refusal, viewed closed.tender) ≡ rules.close (after_receptions m a rs) date time
+  closing_is : (refusal_number closed.answer, viewed closed.tender) ≡ rules.close (after_receptions m a rs) date time
   closing_is = run.closes.equal ∙ ap (λ (t : rules.Tender). rules.close t date time) last_is
 
-  allotting_is : (refusal_number allotted.refusal, viewed allotted.tender, allotted_in allotted) ≡ rules.allot (after_closing m a rs date time)
+  allotting_is : (refusal_number allotted.answer, viewed allotted.tender, allotted_in allotted) ≡ rules.allot (after_closing m a rs date time)
   allotting_is = run.allots.equal ∙ ap (λ (p : Option ℕ × rules.Tender). rules.allot p.1) closing_is
 
   -- what the run gives, as the rules have it
-  closing-number : refusal_number closed.refusal ≡ (rules.close (after_receptions m a rs) date time).0
+  closing-number : refusal_number closed.answer ≡ (rules.close (after_receptions m a rs) date time).0
   closing-number = ap (λ (p : Option ℕ × rules.Tender). p.0) closing_is
 
-  allotting-number : refusal_number allotted.refusal ≡ (rules.allot (after_closing m a rs date time)).0
+  allotting-number : refusal_number allotted.answer ≡ (rules.allot (after_closing m a rs date time)).0
   allotting-number = ap (λ (p : Option ℕ × rules.Tender × rules.Allotted). p.0) allotting_is
 
   awards_are : allotted_in allotted ≡ (rules.allot (after_closing m a rs date time)).2

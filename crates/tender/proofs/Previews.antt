@@ -5,12 +5,10 @@ use Prim.Native.Nat.{ℕ}
 use Rattle.rules.specs.Calls as rules
 use Rattle.rules.specs.Previews as rules-answer
 use Rattle.rules.proofs.Previews.{preview_foretells, preview_of_receptions}
-use Rattle.refusals.specs.Conditions.{refusal_number}
 use Rattle.tender.specs.declared.Tender.{Tender}
-use Rattle.tender.specs.declared.Changed.{Changed}
 use Rattle.tender.specs.declared.Allotted.{Allotted}
 use Rattle.tender.specs.Viewed.{viewed}
-use Rattle.tender.specs.Calls.{Changes, Allots, Previews}
+use Rattle.tender.specs.Calls.{Previews}
 use Rattle.tender.specs.Previews.{answered, PreviewForetellsCalls, PreviewOfReceptionCalls}
 use Rattle.tender.proofs.ArrivalOrder.{received-last, opening-accepted}
 

@@ -47,10 +47,10 @@ ArrivalOrderOfCalls =
     → PastCutOff (terms_of m a) date time
     → PastCutOff (terms_of m a) date₂ time₂
     -- neither closing nor allotting is refused
-    → (refusal_number closed.refusal ≡ none)
-    × (refusal_number allotted.refusal ≡ none)
-    × (refusal_number closed₂.refusal ≡ none)
-    × (refusal_number allotted₂.refusal ≡ none)
+    → (refusal_number closed.answer ≡ none)
+    × (refusal_number allotted.answer ≡ none)
+    × (refusal_number closed₂.answer ≡ none)
+    × (refusal_number allotted₂.answer ≡ none)
     -- awards and marginal rate are document 01's for the final bids, and the same after the rearrangement
     × (allotted_in allotted ≡ rules.allotment (terms_of m a) (final_book (terms_of m a) rs))
     × (allotted_in allotted₂ ≡ allotted_in allotted)

@@ -21,23 +21,23 @@ pub record Opens (m : List ℕ) (a : Admission) (r : Opened) : Type 0 where
 
 -- the reply space is `after` the call
 pub record Receives (t : Tender) (expected : rules.Answer × rules.Tender × List ℕ) (r : Received) (after : List ℕ) : Type 0 where
-  pub answers : Answers expected r.refusal r.errors r.length (viewed r.tender) after
-  pub unchanged : r.tender ≡ unless_confirmed (answer_of r.refusal r.errors r.length) t r.tender
+  pub answers : Answers expected r.answer (viewed r.tender) after
+  pub unchanged : r.tender ≡ unless_confirmed (answer_of r.answer) t r.tender
   pub given : Given r.tender
 
 -- closing and revoking
 pub record Changes (t : Tender) (expected : Option ℕ × rules.Tender) (r : Changed) : Type 0 where
-  pub equal : (refusal_number r.refusal, viewed r.tender) ≡ expected
-  pub unchanged : r.tender ≡ unless_refused (refusal_number r.refusal) t r.tender
+  pub equal : (refusal_number r.answer, viewed r.tender) ≡ expected
+  pub unchanged : r.tender ≡ unless_refused (refusal_number r.answer) t r.tender
   pub given : Given r.tender
 
 pub record Allots (t : Tender) (r : Allotted) : Type 0 where
-  pub equal : (refusal_number r.refusal, viewed r.tender, allotted_in r) ≡ rules.allot (viewed t)
-  pub unchanged : r.tender ≡ unless_refused (refusal_number r.refusal) t r.tender
+  pub equal : (refusal_number r.answer, viewed r.tender, allotted_in r) ≡ rules.allot (viewed t)
+  pub unchanged : r.tender ≡ unless_refused (refusal_number r.answer) t r.tender
   pub given : Given r.tender
 
 -- a preview gives back the very tender that came in
 pub record Previews (t : Tender) (r : Allotted) : Type 0 where
-  pub equal : (refusal_number r.refusal, viewed r.tender, allotted_in r) ≡ rules.preview (viewed t)
+  pub equal : (refusal_number r.answer, viewed r.tender, allotted_in r) ≡ rules.preview (viewed t)
   pub unchanged : r.tender ≡ t
   pub given : Given r.tender

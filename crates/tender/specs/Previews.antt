@@ -17,7 +17,7 @@ use Rattle.tender.specs.ArrivalOrder.{ReceivesAll}
 
 -- what a preview and an allotment answer beside the tender
 abbrev pub answered : Allotted → Option ℕ × rules.Allotted
-answered r = (refusal_number r.refusal, allotted_in r)
+answered r = (refusal_number r.answer, allotted_in r)
 
 -- a tender previewed, then closed at a clock reading that closes it, then allotted: the preview gave what allotting gives
 abbrev pub PreviewForetellsCalls : Type 0
@@ -25,7 +25,7 @@ PreviewForetellsCalls =
     (t : Tender) (date time : ℕ) (previewed : Allotted) (closed : Changed) (allotted : Allotted)
     → Previews t previewed
     → Changes t (rules.close (viewed t) date time) closed
-    → refusal_number closed.refusal ≡ none
+    → refusal_number closed.answer ≡ none
     → Allots closed.tender allotted
     → answered previewed ≡ answered allotted
 

@@ -1,13 +1,11 @@
 -- The code's tender and answers as document 01's. Assumes nothing.
-use Rattle.std.specs.Prelude.{map}
 use Rattle.rules.specs.Calls as rules
 use Rattle.rules.specs.Events.{Kept}
 use Rattle.terms.specs.declared.Terms.{Terms}
-use Rattle.bids.specs.Columns.{cents}
 use Rattle.book.specs.declared.Book.{Book}
-use Rattle.marginal.specs.Ranks.{rate_in}
 use Rattle.refusals.specs.declared.State.{State}
 use Rattle.outcomes.specs.Outcomes.{viewed_of}
+use Rattle.book_allotment.specs.Allotted as book_allotment
 use Rattle.tender.specs.declared.Tender.{Tender}
 use Rattle.tender.specs.declared.Allotted.{Allotted}
 
@@ -27,4 +25,4 @@ in_state_of s t = record { state = s; terms = t.terms; book = t.book }
 
 -- what allotting gives
 abbrev pub allotted_in : Allotted → rules.Allotted
-allotted_in a = record { awards = map cents a.awards; marginal = rate_in a.marginal }
+allotted_in a = book_allotment.allotted_in a.answer

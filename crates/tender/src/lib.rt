@@ -1,10 +1,9 @@
 // The calls on a tender: each takes it by value and gives back the next one with the answer.
 #![tactic(auto)]
 
-ghost use Rattle.std.specs.Prelude.{◌≡◌, []};
+ghost use Rattle.std.specs.Prelude.{◌≡◌};
 ghost use Rattle.rules.specs.Opening.{admitting};
 ghost use Rattle.rules.specs.Calls.{receive, close, revoke};
-ghost use Rattle.errors.specs.Listed.{listed};
 ghost use Rattle.checks.specs.Columns.{reception_of};
 ghost use Rattle.refusals.specs.Conditions.{state_of, refusal_number};
 ghost use Rattle.outcomes.specs.Outcomes.{ComesTo};
@@ -15,15 +14,14 @@ ghost use Rattle.tender.specs.Parts.{changed_unless};
 use addresses::code_of;
 use book::internal::{find_in, takes_at};
 use book::{Book, new_book};
+pub use book_allotment::internal::BookAllotment as Awarded;
 use book_allotment::internal::allot_book;
-use errors::{Errors, none};
-use marginal::MarginalRate;
-use outcomes::internal::{Outcome, held_in, judged, receiving_checks, refused_with};
-use places::Amount;
+pub use outcomes::internal::Reply;
+use outcomes::internal::{Outcome, held_in, judged, receiving_checks};
 use reception::internal::put_reply;
-pub use refusals::{Refusal, State, is_refused, number_of};
+pub use refusals::{Refusal, State, number_of};
 use refusals::{close_refusal, ended_refusal, not_closed};
-use terms::{OpenAnswer, Terms, is_opened};
+use terms::{OpenRefusal, Terms, no_terms};
 
 // What was announced and for whom, what is held for each admitted code, and where the tender stands.
 #[derive(Clone, Copy)]
@@ -33,36 +31,32 @@ pub struct Tender {
     book: Book,
 }
 
-// Why an opening is refused, or that it is not, and the tender.
+// The answer to an opening, and the tender.
 #[derive(Clone, Copy)]
 pub struct Opened {
-    pub answer: OpenAnswer,
+    pub answer: Result<(), OpenRefusal>,
     pub tender: Tender,
 }
 
-// A reception that is not refused is confirmed, or returned with its errors; the length is that of the reply.
+// The answer to a reception, and the tender after it. One that is not refused is confirmed, or returned with its errors.
 #[derive(Clone, Copy)]
 pub struct Received {
-    pub refusal: Refusal,
-    pub errors: Errors,
-    pub length: usize,
+    pub answer: Result<Reply, Refusal>,
     pub tender: Tender,
 }
 
 // What closing and revoking give.
 #[derive(Clone, Copy)]
 pub struct Changed {
-    pub refusal: Refusal,
+    pub answer: Result<(), Refusal>,
     pub tender: Tender,
 }
 
-// What allotting and a preview give: the awards of all places in book order and the marginal rate, zeros and none where the call is refused.
+// What allotting and a preview give: the awards of all places in book order and the marginal rate, unless the call is refused.
 #[derive(Clone, Copy)]
 pub struct Allotted {
-    pub refusal: Refusal,
+    pub answer: Result<Awarded, Refusal>,
     pub tender: Tender,
-    pub awards: [Amount; 640],
-    pub marginal: MarginalRate,
 }
 
 // The tender of an announcement and the codes admitted to it, with a credit limit for each, zero where it has none; a refused opening gives an empty
@@ -70,28 +64,29 @@ pub struct Allotted {
 pub fn open(m: &[u8], codes: &[u32], limits: &[u64]) -> Opened
     ensures { Opens m.now (admitting codes.now limits.now) result }
 {
-    let opening = terms::open(m, codes, limits);
-    let answer = opening.answer;
-    let terms = opening.terms;
-    if is_opened(answer) {
-        let book = new_book(codes, limits);
-        Opened {
-            answer,
-            tender: Tender {
-                state: State::Open,
-                terms,
-                book,
-            },
+    match terms::open(m, codes, limits) {
+        Ok(terms) => {
+            let book = new_book(codes, limits);
+            Opened {
+                answer: Ok(()),
+                tender: Tender {
+                    state: State::Open,
+                    terms,
+                    book,
+                },
+            }
         }
-    } else {
-        let book = new_book(&codes[0..0], &limits[0..0]);
-        Opened {
-            answer,
-            tender: Tender {
-                state: State::Revoked,
-                terms,
-                book,
-            },
+        Err(refusal) => {
+            let terms = no_terms();
+            let book = new_book(&codes[0..0], &limits[0..0]);
+            Opened {
+                answer: Err(refusal),
+                tender: Tender {
+                    state: State::Revoked,
+                    terms,
+                    book,
+                },
+            }
         }
     }
 }
@@ -106,19 +101,14 @@ fn in_state(t: Tender, state: State) -> Tender
 }
 
 // What the reception of a message comes to, with so much room for the reply.
-fn outcome_of(t: Tender, m: &[u8], date: u64, time: u64, room: usize) -> Outcome
+fn outcome_of(t: Tender, m: &[u8], date: u64, time: u64, room: usize) -> Result<Outcome, Refusal>
     requires { Given t }
     ensures { ComesTo (viewed t) m.now date time room result }
 {
     let state = t.state;
     let terms = t.terms;
     let book = t.book;
-    let checked = receiving_checks(state, m, date, time, room);
-    let refusal = checked.refusal;
-    if is_refused(refusal) {
-        return refused_with(refusal);
-    }
-    let fields = checked.fields;
+    let fields = receiving_checks(state, m, date, time, room)?;
     let sender = fields.sender;
     let reference = fields.time;
     // Copied by themselves, since a book that lends a part of itself is copied whole.
@@ -126,34 +116,25 @@ fn outcome_of(t: Tender, m: &[u8], date: u64, time: u64, room: usize) -> Outcome
     let held = book.held;
     let has = book.has;
     let found = find_in(&codes, book.n, code_of(sender));
-    let sent = digits::number_of(reference);
+    let sent = reference.unwrap_or(0);
     let taken = takes_at(&held, &has, found, sent);
-    judged(terms, found, taken, m, fields, date, time)
-}
-
-// A reception refused: no errors, no reply and the tender as it was.
-fn unreceived(t: Tender, refusal: Refusal) -> Received
-    ensures { (result.refusal ≡ refusal) × (listed result.errors ≡ []) × (result.errors.n ≡ 0) × (result.length ≡ 0) × (result.tender ≡ t) }
-{
-    Received {
-        refusal,
-        errors: none(),
-        length: 0,
-        tender: t,
-    }
+    Ok(judged(terms, found, taken, m, fields, date, time))
 }
 
 // The tender in another state, unless the call is refused.
-fn in_state_unless(t: Tender, refusal: Refusal, state: State) -> Changed
+fn in_state_unless(t: Tender, answer: Result<(), Refusal>, state: State) -> Changed
     requires { Given t }
-    ensures { (result.refusal ≡ refusal) × Changes t (changed_unless (refusal_number refusal) (state_of state) (viewed t)) result }
+    ensures { (result.answer ≡ answer) × Changes t (changed_unless (refusal_number answer) (state_of state) (viewed t)) result }
 {
-    if is_refused(refusal) {
-        return Changed { refusal, tender: t };
-    }
-    Changed {
-        refusal,
-        tender: in_state(t, state),
+    match answer {
+        Ok(()) => Changed {
+            answer: Ok(()),
+            tender: in_state(t, state),
+        },
+        Err(refusal) => Changed {
+            answer: Err(refusal),
+            tender: t,
+        },
     }
 }
 
@@ -184,25 +165,26 @@ impl Tender {
         requires { Given self }
         ensures { Receives self (receive (viewed self) (reception_of m.now date time space.old)) result space.new }
     {
-        let o = outcome_of(self, m, date, time, space.len());
-        let refusal = o.refusal;
-        if is_refused(refusal) {
-            return unreceived(self, refusal);
-        }
-        let errors = o.errors;
-        let state = self.state;
-        let terms = self.terms;
-        let book = self.book;
-        let length = put_reply(space, m, terms, time, errors);
-        let next = held_in(book, o);
-        Received {
-            refusal: Refusal::None,
-            errors,
-            length,
-            tender: Tender {
-                state,
-                terms,
-                book: next,
+        match outcome_of(self, m, date, time, space.len()) {
+            Ok(o) => {
+                let errors = o.errors;
+                let state = self.state;
+                let terms = self.terms;
+                let book = self.book;
+                let length = put_reply(space, m, terms, time, errors);
+                let next = held_in(book, o);
+                Received {
+                    answer: Ok(Reply { errors, length }),
+                    tender: Tender {
+                        state,
+                        terms,
+                        book: next,
+                    },
+                }
+            }
+            Err(refusal) => Received {
+                answer: Err(refusal),
+                tender: self,
             },
         }
     }
@@ -214,8 +196,8 @@ impl Tender {
     {
         let state = self.state;
         let terms = self.terms;
-        let refusal = close_refusal(state, terms, date, time);
-        in_state_unless(self, refusal, State::Closed)
+        let answer = close_refusal(state, terms, date, time);
+        in_state_unless(self, answer, State::Closed)
     }
 
     // Allots the offer of a closed tender to the bids in its book.
@@ -226,16 +208,15 @@ impl Tender {
         let state = self.state;
         let terms = self.terms;
         let book = self.book;
-        let allotted = allot_book(not_closed(state), terms, book);
-        let refusal = allotted.refusal;
-        let awards = allotted.awards;
-        let marginal = allotted.marginal;
-        let tender = in_state_unless(self, refusal, State::Announced).tender;
-        Allotted {
-            refusal,
-            tender,
-            awards,
-            marginal,
+        match allot_book(not_closed(state), terms, book) {
+            Ok(allotment) => Allotted {
+                answer: Ok(allotment),
+                tender: in_state(self, State::Announced),
+            },
+            Err(refusal) => Allotted {
+                answer: Err(refusal),
+                tender: self,
+            },
         }
     }
 
@@ -247,15 +228,10 @@ impl Tender {
         let state = self.state;
         let terms = self.terms;
         let book = self.book;
-        let previewed = allot_book(ended_refusal(state), terms, book);
-        let refusal = previewed.refusal;
-        let awards = previewed.awards;
-        let marginal = previewed.marginal;
+        let answer = allot_book(ended_refusal(state), terms, book);
         Allotted {
-            refusal,
+            answer,
             tender: self,
-            awards,
-            marginal,
         }
     }
 
@@ -265,7 +241,7 @@ impl Tender {
         ensures { Changes self (revoke (viewed self)) result }
     {
         let state = self.state;
-        let refusal = ended_refusal(state);
-        in_state_unless(self, refusal, State::Revoked)
+        let answer = ended_refusal(state);
+        in_state_unless(self, answer, State::Revoked)
     }
 }

@@ -3,7 +3,6 @@ use crate::messages::announcement;
 use crate::{lines, steps};
 use outcomes::internal::allot_bids;
 use std::io;
-use tender::Refusal;
 
 // Allots two bids of a code with a limit under document 01's terms, and prints their awards.
 fn allot(rt: &impl Print, name: &[u8], limit: u64, first: u64, second: u64) -> io::Result<()> {
@@ -12,14 +11,12 @@ fn allot(rt: &impl Print, name: &[u8], limit: u64, first: u64, second: u64) -> i
     let rates = [150000u32, 140000, 0, 0, 0, 0, 0, 0, 0, 0];
     let amounts = [first, second, 0, 0, 0, 0, 0, 0, 0, 0];
     let mut awards = [0u64; 10];
-    let answer = allot_bids(Refusal::None, terms, &limits, &rates, &amounts, &mut awards);
-    let refusal = answer.refusal;
-    let marginal = answer.marginal;
+    let answer = allot_bids(Ok(()), terms, &limits, &rates, &amounts, &mut awards);
     printing::text(rt, name)?;
-    lines::changed(rt, refusal)?;
+    lines::answered(rt, answer.err())?;
     printing::number(rt, awards[0])?;
     printing::number(rt, awards[1])?;
-    lines::marginal(rt, marginal)?;
+    lines::marginal(rt, answer.unwrap_or(None))?;
     printing::end(rt)
 }
 

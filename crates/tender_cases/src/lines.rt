@@ -3,16 +3,14 @@ ghost use Rattle.std.specs.Prelude.{◌+◌, ◌<◌, ◌≤◌, length};
 
 use book::Book;
 use errors::Errors;
-use marginal::MarginalRate;
 use places::{Amount, Rate};
 use std::io;
 use tender::{Received, Refusal, State, Tender};
-use terms::OpenAnswer;
+use terms::OpenRefusal;
 
-// The number of a refusal, 0 where there is none.
+// The number of a refusal.
 fn number_of(r: Refusal) -> u64 {
     match r {
-        Refusal::None => 0,
         Refusal::Revoked => 8,
         Refusal::Over => 9,
         Refusal::ClockInvalid => 10,
@@ -25,40 +23,46 @@ fn number_of(r: Refusal) -> u64 {
     }
 }
 
-// The number of a refusal to open, 0 where there is none.
-fn opening_number(a: OpenAnswer) -> u64 {
-    match a {
-        OpenAnswer::Opened => 0,
-        OpenAnswer::NotAnnouncement => 1,
-        OpenAnswer::OtherOrigin => 2,
-        OpenAnswer::Malformed => 3,
-        OpenAnswer::UnknownType => 4,
-        OpenAnswer::Impossible => 5,
-        OpenAnswer::Disordered => 6,
-        OpenAnswer::BadCodes => 7,
-        OpenAnswer::LimitsMiscounted => 19,
-        OpenAnswer::LimitTooLong => 20,
+// The number of a refusal to open.
+fn opening_number(r: OpenRefusal) -> u64 {
+    match r {
+        OpenRefusal::NotAnnouncement => 1,
+        OpenRefusal::OtherOrigin => 2,
+        OpenRefusal::Malformed => 3,
+        OpenRefusal::UnknownType => 4,
+        OpenRefusal::Impossible => 5,
+        OpenRefusal::Disordered => 6,
+        OpenRefusal::BadCodes => 7,
+        OpenRefusal::LimitsMiscounted => 19,
+        OpenRefusal::LimitTooLong => 20,
     }
 }
 
-// That a call was accepted, or the number with which it was refused.
-fn accepted(rt: &impl Print, n: u64) -> io::Result<()> {
-    if n == 0 {
-        printing::text(rt, b" accepted")
-    } else {
-        printing::text(rt, b" refused")?;
-        printing::number(rt, n)
-    }
+// That a call was accepted.
+fn accepted(rt: &impl Print) -> io::Result<()> {
+    printing::text(rt, b" accepted")
 }
 
-// The answer to closing, revoking, allotting or a preview.
-pub fn changed(rt: &impl Print, r: Refusal) -> io::Result<()> {
-    accepted(rt, number_of(r))
+// That a call was refused, and the number with which it was.
+fn refused(rt: &impl Print, n: u64) -> io::Result<()> {
+    printing::text(rt, b" refused")?;
+    printing::number(rt, n)
+}
+
+// The answer to closing, revoking, allotting or a preview, by the refusal in it.
+pub fn answered(rt: &impl Print, refusal: Option<Refusal>) -> io::Result<()> {
+    match refusal {
+        Some(r) => refused(rt, number_of(r)),
+        None => accepted(rt),
+    }
 }
 
 // The answer to opening.
-pub fn opened(rt: &impl Print, a: OpenAnswer) -> io::Result<()> {
-    accepted(rt, opening_number(a))
+pub fn opened(rt: &impl Print, answer: Result<(), OpenRefusal>) -> io::Result<()> {
+    match answer {
+        Ok(()) => accepted(rt),
+        Err(r) => refused(rt, opening_number(r)),
+    }
 }
 
 // Which of the IDCs a code stands under.
@@ -95,32 +99,26 @@ fn error(rt: &impl Print, code: u16) -> io::Result<()> {
 
 // The errors of a message.
 fn errors(rt: &impl Print, e: Errors) -> io::Result<()> {
-    let codes = e.codes;
-    let n = e.n;
-    let mut i = 0;
-    while i < 16 {
-        if i < n {
-            error(rt, codes[i])?;
-        }
-        i += 1;
+    for &code in e.as_slice() {
+        error(rt, code)?;
     }
     Ok(())
 }
 
 // The answer to a reception.
 pub fn received(rt: &impl Print, r: Received) -> io::Result<()> {
-    let refusal = r.refusal;
-    let e = r.errors;
-    let n = number_of(refusal);
-    if n != 0 {
-        accepted(rt, n)
-    } else if e.n == 0 {
-        printing::text(rt, b" confirmed")?;
-        printing::number(rt, r.length as u64)
-    } else {
-        printing::text(rt, b" returned")?;
-        errors(rt, e)?;
-        printing::number(rt, r.length as u64)
+    match r.answer {
+        Ok(reply) => {
+            let e = reply.errors;
+            if e.is_empty() {
+                printing::text(rt, b" confirmed")?;
+            } else {
+                printing::text(rt, b" returned")?;
+                errors(rt, e)?;
+            }
+            printing::number(rt, reply.length as u64)
+        }
+        Err(refusal) => refused(rt, number_of(refusal)),
     }
 }
 
@@ -149,14 +147,9 @@ fn place(rt: &impl Print, k: u64, rate: Rate, amount: Amount) -> io::Result<()> 
 fn places(rt: &impl Print, b: Book, i: usize) -> io::Result<()>
     requires { i < 64 }
 {
-    let rates = b.rates;
-    let amounts = b.amounts;
-    let mut k = 0;
-    while k < 10 {
-        let rate = rates[10 * i + k];
-        let amount = amounts[10 * i + k];
-        place(rt, k as u64 + 1, rate, amount)?;
-        k += 1;
+    for k in 0..10 {
+        let at = 10 * i + k;
+        place(rt, k as u64 + 1, b.rates[at], b.amounts[at])?;
     }
     Ok(())
 }
@@ -177,11 +170,8 @@ fn entry(rt: &impl Print, b: Book, i: usize) -> io::Result<()> {
 
 // What is held for each code.
 fn entries(rt: &impl Print, b: Book) -> io::Result<()> {
-    let n = b.n;
-    let mut i = 0;
-    while i < n {
+    for i in 0..b.n {
         entry(rt, b, i)?;
-        i += 1;
     }
     Ok(())
 }
@@ -195,33 +185,31 @@ pub fn state_after(rt: &impl Print, t: Tender) -> io::Result<()> {
 }
 
 // One award above zero, with its counterparty and place.
-fn award(rt: &impl Print, b: Book, i: usize, awarded: Amount) -> io::Result<()> {
+fn award(rt: &impl Print, b: Book, i: usize, awarded: Amount) -> io::Result<()>
+    requires { i < 640 }
+{
     if 0 < awarded.0 {
-        if i < 640 {
-            printing::number(rt, b.codes[i / 10] as u64)?;
-            printing::text(rt, b" place")?;
-            printing::number(rt, (i % 10) as u64 + 1)?;
-            printing::number(rt, awarded.0)?;
-        }
+        printing::number(rt, b.codes[i / 10] as u64)?;
+        printing::text(rt, b" place")?;
+        printing::number(rt, (i % 10) as u64 + 1)?;
+        printing::number(rt, awarded.0)?;
     }
     Ok(())
 }
 
 // The awards above zero in book order.
 pub fn awards(rt: &impl Print, b: Book, awarded: [Amount; 640]) -> io::Result<()> {
-    let mut i = 0;
-    while i < 640 {
-        award(rt, b, i, awarded[i])?;
-        i += 1;
+    for (i, &amount) in awarded.iter().enumerate() {
+        award(rt, b, i, amount)?;
     }
     Ok(())
 }
 
 // The marginal rate, or that there is none.
-pub fn marginal(rt: &impl Print, m: MarginalRate) -> io::Result<()> {
+pub fn marginal(rt: &impl Print, m: Option<Rate>) -> io::Result<()> {
     printing::text(rt, b" marginal rate")?;
     match m {
-        MarginalRate::At(rate) => printing::number(rt, rate.0 as u64),
-        MarginalRate::None => printing::text(rt, b" none"),
+        Some(rate) => printing::number(rt, rate.0 as u64),
+        None => printing::text(rt, b" none"),
     }
 }

@@ -45,7 +45,7 @@ fn numbers(sender: Address, recipient: Address, time: u64, rate: u32, amount: u6
 pub fn application(code: u64, time: u64, rate: u32, amount: u64) -> [u8; 339] {
     let a = numbers(Address::Code(code), Address::Code(1000), time, rate, amount);
     let mut m = [0u8; 339];
-    write(a, b"6G1", b"T/2012/0001", b"CONTACT NAME   ", &mut m);
+    let _ = write(a, b"6G1", b"T/2012/0001", b"CONTACT NAME   ", &mut m);
     m
 }
 
@@ -53,7 +53,7 @@ pub fn application(code: u64, time: u64, rate: u32, amount: u64) -> [u8; 339] {
 pub fn application_between(sender: Address, recipient: Address, time: u64) -> [u8; 357] {
     let a = numbers(sender, recipient, time, 150000, 60000);
     let mut m = [0u8; 357];
-    write(a, b"6G1", b"T/2012/0001", b"CONTACT NAME   ", &mut m);
+    let _ = write(a, b"6G1", b"T/2012/0001", b"CONTACT NAME   ", &mut m);
     m
 }
 

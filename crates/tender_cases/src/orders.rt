@@ -2,10 +2,9 @@
 ghost use Rattle.tender.specs.Viewed.{Given};
 
 use crate::messages::{announcement, application};
-use crate::parts::{initial, part, rest};
+use crate::parts::{initial, rest};
 use crate::steps;
-use marginal::MarginalRate;
-use places::Amount;
+use places::{Amount, Rate};
 use std::io;
 use tender::{Allotted, Tender};
 
@@ -51,47 +50,38 @@ fn allotted(order: &[u8]) -> Allotted {
 
 // Whether all awards are equal.
 fn same_awards(a: [Amount; 640], b: [Amount; 640]) -> bool {
-    let mut same = true;
-    let mut i = 0;
-    while i < 640 {
-        same = same & (a[i].0 == b[i].0);
-        i += 1;
-    }
-    same
+    a.iter().zip(&b).all(|(x, y)| x.0 == y.0)
 }
 
 // Whether two marginal rates are one rate.
-fn same_rate(a: MarginalRate, b: MarginalRate) -> bool {
+fn same_rate(a: Option<Rate>, b: Option<Rate>) -> bool {
     match a {
-        MarginalRate::At(r) => match b {
-            MarginalRate::At(s) => r.0 == s.0,
-            MarginalRate::None => false,
+        Some(r) => match b {
+            Some(s) => r.0 == s.0,
+            None => false,
         },
-        MarginalRate::None => false,
+        None => false,
     }
 }
 
 // Whether two allotments give the same awards and the same marginal rate.
 fn same(a: Allotted, b: Allotted) -> bool {
-    let x = a.awards;
-    let y = b.awards;
-    let r = a.marginal;
-    let s = b.marginal;
-    same_awards(x, y) & same_rate(r, s)
+    match a.answer {
+        Ok(x) => match b.answer {
+            Ok(y) => same_awards(x.awards, y.awards) & same_rate(x.marginal, y.marginal),
+            Err(_) => false,
+        },
+        Err(_) => false,
+    }
 }
 
-// How many of 24 orders give the awards and the marginal rate of the first.
+// How many of some orders, each of four letters and a blank, give the awards and the marginal rate of the first.
 fn equal_to_first(orders: &[u8]) -> u64 {
-    let first = allotted(part(orders, 0, 4));
-    let mut equal: u64 = 0;
-    let mut k = 0;
-    while k < 24 {
-        if same(allotted(part(orders, 5 * k, 5 * k + 4)), first) {
-            equal += 1;
-        }
-        k += 1;
-    }
-    equal
+    let first = allotted(orders);
+    orders
+        .chunks(5)
+        .filter(|order| same(allotted(order), first))
+        .count() as u64
 }
 
 // In how many orders the awards and the marginal rate are those of the session.

@@ -1,43 +1,18 @@
 // The bytes of a reply, and of the space that it is written into.
-ghost use Rattle.std.specs.Prelude.{◌<◌};
-
 use crate::parts::part;
 use std::io;
 
-// A hexadecimal digit.
-fn digit(n: u8) -> u8
-    requires { n < 16 }
-{
-    if n < 10 { 48 + n } else { 87 + n }
-}
-
-// A byte in hexadecimal.
-fn byte(rt: &impl Print, b: u8) -> io::Result<()> {
-    let pair = [digit(b / 16), digit(b % 16)];
-    printing::text(rt, &pair)
-}
-
 // Every byte of a space in hexadecimal.
 fn bytes(rt: &impl Print, space: &[u8]) -> io::Result<()> {
-    let mut i = 0;
-    while i < space.len() {
-        byte(rt, space[i])?;
-        i += 1;
+    for b in space {
+        print!(rt; "{b:02x}")?;
     }
     Ok(())
 }
 
 // How many bytes of a space hold 238.
 pub fn untouched(space: &[u8]) -> u64 {
-    let mut count: u64 = 0;
-    let mut i = 0;
-    while i < space.len() {
-        if space[i] == 238 {
-            count += 1;
-        }
-        i += 1;
-    }
-    count
+    space.iter().filter(|&&b| b == 238).count() as u64
 }
 
 // What a line asks for: H the space, L the last field of a returned message, which begins past the

@@ -5,7 +5,7 @@ ghost use Rattle.tender.specs.Viewed.{Given};
 use crate::{lines, spaces};
 use book::Book;
 use std::io;
-use tender::{Allotted, Tender};
+use tender::{Allotted, Received, Tender};
 
 // Opens a tender of an announcement, for the codes 90001 to 90003 without limits.
 pub fn opened(a: [u8; 225]) -> Tender
@@ -34,6 +34,14 @@ pub fn open(
     Ok(o.tender)
 }
 
+// The length of the reply to a message, 0 where its reception is refused.
+fn reply_length(r: Received) -> usize {
+    match r.answer {
+        Ok(reply) => reply.length,
+        Err(_) => 0,
+    }
+}
+
 // Receives a message into a space of 438 bytes.
 pub fn receive(
     rt: &impl Print,
@@ -51,7 +59,7 @@ pub fn receive(
     let r = t.receive(m, date, time, &mut space);
     printing::text(rt, name)?;
     lines::received(rt, r)?;
-    spaces::asked(rt, kind, &space, r.length)?;
+    spaces::asked(rt, kind, &space, reply_length(r))?;
     lines::state_after(rt, r.tender)?;
     Ok(r.tender)
 }
@@ -83,9 +91,8 @@ pub fn close(rt: &impl Print, name: &[u8], t: Tender, date: u64, time: u64) -> i
     ensures { IfOk result Given }
 {
     let r = t.close(date, time);
-    let refusal = r.refusal;
     printing::text(rt, name)?;
-    lines::changed(rt, refusal)?;
+    lines::answered(rt, r.answer.err())?;
     lines::state_after(rt, r.tender)?;
     Ok(r.tender)
 }
@@ -96,22 +103,23 @@ pub fn revoke(rt: &impl Print, name: &[u8], t: Tender) -> io::Result<Tender>
     ensures { IfOk result Given }
 {
     let r = t.revoke();
-    let refusal = r.refusal;
     printing::text(rt, name)?;
-    lines::changed(rt, refusal)?;
+    lines::answered(rt, r.answer.err())?;
     lines::state_after(rt, r.tender)?;
     Ok(r.tender)
 }
 
 // Prints what an allotment or a preview gave, with the awards to the bids of a book and the marginal rate.
 fn awarded(rt: &impl Print, name: &[u8], b: Book, r: Allotted) -> io::Result<()> {
-    let refusal = r.refusal;
-    let awards = r.awards;
-    let marginal = r.marginal;
     printing::text(rt, name)?;
-    lines::changed(rt, refusal)?;
-    lines::awards(rt, b, awards)?;
-    lines::marginal(rt, marginal)?;
+    lines::answered(rt, r.answer.err())?;
+    match r.answer {
+        Ok(a) => {
+            lines::awards(rt, b, a.awards)?;
+            lines::marginal(rt, a.marginal)?;
+        }
+        Err(_) => lines::marginal(rt, None)?,
+    }
     lines::state_after(rt, r.tender)
 }
 

@@ -14,13 +14,13 @@ use Rattle.rules.specs.Opening.{any, rising, bad_codes}
 use Rattle.terms.specs.Viewed.{rises_from}
 
 -- the loop: one more code, and the end
-pub rise_more : (ok : Bool) (least : ℕ) (s : List ℕ) (i : ℕ) → i < length s → ((ok && leb least (get_or s i 0) && leb (get_or s i 0) 99999) && rises_from (get_or s i 0 + 1) (drop (i + 1) s)) ≡ (ok && rises_from least (drop i s))
+pub rise_more : (ok : Bool) (least : ℕ) (s : List ℕ) (i : ℕ) → i < length s → ((ok && (leb least (get_or s i 0) && leb (get_or s i 0) 99999)) && rises_from (get_or s i 0 + 1) (drop (i + 1) s)) ≡ (ok && rises_from least (drop i s))
 unfolding rises_from
 rise_more ok least s i h =
     let x = leb least (get_or s i 0) in
     let y = leb (get_or s i 0) 99999 in
     let z = rises_from (get_or s i 0 + 1) (drop (suc i) s) in
-    rw (drop-cons s i 0 h, add-one i) (ap (λ (t : Bool). t && z) (and_assoc ok x y) ∙ and_assoc ok (x && y) z)
+    rw (drop-cons s i 0 h, add-one i) (and_assoc ok (x && y) z)
 
 pub rise_end : (ok : Bool) (least : ℕ) (s : List ℕ) (i : ℕ) → length s ≤ i → (ok && rises_from least (drop i s)) ≡ ok
 unfolding rises_from

@@ -1,43 +1,34 @@
--- The answers and terms of the code as those of the rules, and the parts in which the code tests an announcement. Assumes nothing.
-use Rattle.std.specs.Prelude.{◌≡◌, Bool, true, false, ◌&&◌, List, [], ◌∷◌, ℕ, ◌+◌, leb}
+-- The refusals and terms of the code as those of the rules, and the parts in which the code tests an announcement. Assumes nothing.
+use Rattle.std.specs.Prelude.{◌≡◌, Bool, true, ◌&&◌, List, [], ◌∷◌, ℕ, ◌+◌, leb, Result, Ok, Err, IfOk}
 use Rattle.std.proofs.Math.Option.{Option, none, some}
 use Rattle.calendar.specs.Calendar.{valid_date}
 use Rattle.digits.specs.Decimal.{is_number, number_in}
-use Rattle.envelope.specs.Refusals.{first_holding, unless_refused}
+use Rattle.envelope.specs.Refusals.{first_holding}
 use Rattle.announcement.specs.declared.References.{References}
 use Rattle.announcement.specs.declared.Announcement.{Announcement}
-use Rattle.announcement.specs.Announcement.{dates_ordered}
+use Rattle.announcement.specs.Announcement.{characteristics_in, dates_ordered}
 use Rattle.rules.specs.Opening as rules
-use Rattle.rules.specs.Opening.{Admission, nobody, is_date, is_time, bad_codes, limits_miscounted, limit_too_long, opening_refused, terms_of, no_terms}
+use Rattle.rules.specs.Opening.{Admission, is_date, is_time, bad_codes, limits_miscounted, limit_too_long, opening_refused, terms_of}
 use Rattle.terms.specs.declared.Terms as declared
-use Rattle.terms.specs.declared.Opening.{Opening}
-use Rattle.terms.specs.declared.OpenAnswer.{OpenAnswer}
-use Rattle.terms.specs.declared.OpenAnswer.TheVariants.{Opened, NotAnnouncement, OtherOrigin, Malformed, UnknownType, Impossible, Disordered, BadCodes, LimitsMiscounted, LimitTooLong}
+use Rattle.terms.specs.declared.OpenRefusal.{OpenRefusal}
+use Rattle.terms.specs.declared.OpenRefusal.TheVariants.{NotAnnouncement, OtherOrigin, Malformed, UnknownType, Impossible, Disordered, BadCodes, LimitsMiscounted, LimitTooLong}
 
--- the paper's number for each answer
-abbrev pub open_refusal : OpenAnswer → Option ℕ
-open_refusal Opened = none
-open_refusal NotAnnouncement = some 1
-open_refusal OtherOrigin = some 2
-open_refusal Malformed = some 3
-open_refusal UnknownType = some 4
-open_refusal Impossible = some 5
-open_refusal Disordered = some 6
-open_refusal BadCodes = some 7
-open_refusal LimitsMiscounted = some 19
-open_refusal LimitTooLong = some 20
+-- the paper's number for each refusal
+abbrev pub open_number : OpenRefusal → ℕ
+open_number NotAnnouncement = 1
+open_number OtherOrigin = 2
+open_number Malformed = 3
+open_number UnknownType = 4
+open_number Impossible = 5
+open_number Disordered = 6
+open_number BadCodes = 7
+open_number LimitsMiscounted = 19
+open_number LimitTooLong = 20
 
-abbrev pub is_opened : OpenAnswer → Bool
-is_opened Opened = true
-is_opened NotAnnouncement = false
-is_opened OtherOrigin = false
-is_opened Malformed = false
-is_opened UnknownType = false
-is_opened Impossible = false
-is_opened Disordered = false
-is_opened BadCodes = false
-is_opened LimitsMiscounted = false
-is_opened LimitTooLong = false
+-- the paper's number for the refusal in an answer, or none
+abbrev pub open_refusal : {A : Type 0} → Result A OpenRefusal → Option ℕ
+open_refusal (Ok x) = none
+open_refusal (Err r) = some (open_number r)
 
 -- the terms of the code, with the admission that the book tells, as the terms of the rules
 abbrev pub viewed : declared.Terms → Admission → rules.Terms
@@ -57,27 +48,21 @@ viewed t a =
       admission = a;
     }
 
--- the refusal of opening and the terms, which are none where it is refused; a refused opening admits nobody
-unfoldable pub opening_terms : List ℕ → Admission → Option ℕ × rules.Terms
-opening_terms m a = (opening_refused m a, unless_refused (opening_refused m a) no_terms (terms_of m a))
-
-unfoldable pub admitted_unless : List ℕ → Admission → Admission
-admitted_unless m a = unless_refused (opening_refused m a) nobody a
-
--- what opening promises of an answer and terms
-abbrev pub OpensTerms : List ℕ → Admission → Opening → Type 0
-OpensTerms m a r = ◌≡◌ {A = Option ℕ × rules.Terms} (open_refusal r.answer, viewed r.terms (admitted_unless m a)) (opening_terms m a)
+-- what opening promises of its answer: the refusal of the rules, or the terms
+pub record OpensTerms (m : List ℕ) (a : Admission) (r : Result declared.Terms OpenRefusal) : Type 0 where
+  pub number : open_refusal r ≡ opening_refused m a
+  pub terms : IfOk r (λ t. viewed t a ≡ terms_of m a)
 
 -- the parts of condition 3
 unfoldable pub references_formed : References → Bool
 references_formed r = is_number r.recipient && is_number r.cro && is_date r.date && is_time r.time
 
 unfoldable pub dates_formed : Announcement → Bool
-dates_formed a = valid_date a.characteristics.execution && is_date a.spot && is_date a.forward && is_time a.cutoff
+dates_formed a = valid_date (characteristics_in a.characteristics).execution && is_date a.spot && is_date a.forward && is_time a.cutoff
 
 -- what condition 6 asks
 unfoldable pub dates_in_order : Announcement → Bool
-dates_in_order a = dates_ordered (number_in a.references.date) a.characteristics.execution (number_in a.spot) (number_in a.forward)
+dates_in_order a = dates_ordered (number_in a.references.date) (characteristics_in a.characteristics).execution (number_in a.spot) (number_in a.forward)
 
 -- codes of which the first is at least a number, each later one is above the one before it, and none is over 99999
 unfoldable pub rises_from : ℕ → List ℕ → Bool

@@ -2,26 +2,23 @@
 // it keeps of the announcement.
 #![tactic(auto)]
 
-ghost use Rattle.std.specs.Prelude.{◌≡◌, true, ◌<◌, length};
+ghost use Rattle.std.specs.Prelude.{◌≡◌, true, is_some, length, IfSome};
 ghost use Rattle.layout.specs.Fields.{readable};
-ghost use Rattle.envelope.specs.Refusals.{or_zero};
-ghost use Rattle.announcement.specs.Announcement.{layout6_g0, announcement_of, reading};
-ghost use Rattle.rules.specs.Opening.{Admission, admitting, nobody, is_date, is_time, well_formed, other_origin, is_unknown, impossible, bad_codes, limit_too_long, opening_refused, side_of, terms_of, no_terms};
-ghost use Rattle.terms.specs.Viewed.{references_formed, dates_formed, rises_from, dates_in_order, admission_refused, open_refusal, is_opened, viewed, OpensTerms};
+ghost use Rattle.announcement.specs.Announcement.{layout6_g0, announcement_of};
+ghost use Rattle.rules.specs.Opening.{Admission, admitting, nobody, is_date, is_time, well_formed, other_origin, impossible, bad_codes, limit_too_long, terms_of, no_terms};
+ghost use Rattle.terms.specs.Viewed.{references_formed, dates_formed, rises_from, dates_in_order, admission_refused, open_number, open_refusal, viewed, OpensTerms};
 
 use announcement::internal::bytes_in;
 use announcement::{
-    Announcement, Characteristics, Field, Kind, Reading, References, Side, dates_ordered, read,
+    Announcement, Characteristics, Field, Kind, References, Side, dates_ordered, read,
 };
 use calendar::{valid_date, valid_time};
-use digits::{Digits, has_number, number_of};
 use places::{Amount, Rate};
 use texts::same;
 
-// Why an opening is refused, or that it is not.
-#[derive(Clone, Copy)]
-pub enum OpenAnswer {
-    Opened,
+// Why an opening is refused.
+#[derive(Clone, Copy, Debug, PartialEq, Eq)]
+pub enum OpenRefusal {
     NotAnnouncement,
     OtherOrigin,
     Malformed,
@@ -49,59 +46,50 @@ pub struct Terms {
     pub limit: Rate,
 }
 
-#[derive(Clone, Copy)]
-pub struct Opening {
-    pub answer: OpenAnswer,
-    pub terms: Terms,
-}
-
 // Whether a field is a date.
-pub fn is_date(d: Digits) -> bool
+pub fn is_date(d: Option<u64>) -> bool
     ensures { result ≡ is_date d }
 {
     match d {
-        Digits::Number(n) => valid_date(n),
-        Digits::None => false,
+        Some(n) => valid_date(n),
+        None => false,
     }
 }
 
 // Whether a field is a time.
-pub fn is_time(d: Digits) -> bool
+pub fn is_time(d: Option<u64>) -> bool
     ensures { result ≡ is_time d }
 {
     match d {
-        Digits::Number(n) => valid_time(n),
-        Digits::None => false,
+        Some(n) => valid_time(n),
+        None => false,
     }
 }
 
 fn references_formed(r: References) -> bool
     ensures { result ≡ references_formed r }
 {
-    let recipient = r.recipient;
-    let cro = r.cro;
-    let date = r.date;
-    let time = r.time;
-    has_number(recipient) & has_number(cro) & is_date(date) & is_time(time)
+    r.recipient.is_some() & r.cro.is_some() & is_date(r.date) & is_time(r.time)
 }
 
-fn dates_formed(a: Announcement) -> bool
+fn dates_formed(a: Announcement, c: Characteristics) -> bool
+    requires { a.characteristics ≡ Some c }
     ensures { result ≡ dates_formed a }
 {
-    let c = a.characteristics;
-    let spot = a.spot;
-    let forward = a.forward;
-    let cutoff = a.cutoff;
-    valid_date(c.execution) & is_date(spot) & is_date(forward) & is_time(cutoff)
+    valid_date(c.execution) & is_date(a.spot) & is_date(a.forward) & is_time(a.cutoff)
 }
 
-// Whether nothing in an announcement is malformed, its type field apart.
-fn well_formed(a: Announcement) -> bool
-    ensures { result ≡ well_formed a }
+// The characteristics of an announcement of which nothing is malformed, its type field apart.
+fn well_formed(a: Announcement) -> Option<Characteristics>
+    ensures whether { is_some result ≡ well_formed a }
+    ensures which { IfSome result (λ c. a.characteristics ≡ Some c) }
 {
-    let r = a.references;
-    let c = a.characteristics;
-    references_formed(r) & a.identified & c.formed & dates_formed(a)
+    let c = a.characteristics?;
+    if references_formed(a.references) & a.identified & dates_formed(a, c) {
+        Some(c)
+    } else {
+        None
+    }
 }
 
 // Whether the type is another than 6G0 or the sender another than 01000.
@@ -110,24 +98,6 @@ fn other_origin(m: &[u8]) -> bool
     ensures { result ≡ other_origin m.now }
 {
     !(same(bytes_in(m, Field::MessageType), b"6G0") & same(bytes_in(m, Field::Sender), b"01000"))
-}
-
-fn is_unknown(k: Kind) -> bool
-    ensures { result ≡ is_unknown k }
-{
-    match k {
-        Kind::Tender(_, _) => false,
-        Kind::Unknown => true,
-    }
-}
-
-fn side_of(k: Kind) -> Side
-    ensures { result ≡ side_of k }
-{
-    match k {
-        Kind::Tender(s, _) => s,
-        Kind::Unknown => Side::La,
-    }
 }
 
 // Whether most bids or an amount is one that no tender has.
@@ -148,21 +118,12 @@ fn codes_rise(codes: &[u32]) -> bool
 {
     let mut ok = true;
     let mut least: u64 = 0;
-    let mut i = 0;
-    while i < codes.len() {
-        let c = wide(codes[i]);
-        ok = ok & (least <= c) & (c <= 99999);
+    for &code in codes {
+        let c = u64::from(code);
+        ok &= (least <= c) & (c <= 99999);
         least = c + 1;
-        i += 1;
     }
     ok
-}
-
-// A code as a number of 64 bits.
-fn wide(c: u32) -> u64
-    ensures { (result ≡ c) × (result < 4294967296) }
-{
-    c as u64
 }
 
 // Whether an admitted list is empty, over 64, not strictly rising, or has a code over 99999.
@@ -174,19 +135,15 @@ fn codes_bad(codes: &[u32]) -> bool
 }
 
 // Whether the dates of an announcement stand in their order.
-fn in_order(a: Announcement) -> bool
+fn in_order(a: Announcement, c: Characteristics) -> bool
+    requires { a.characteristics ≡ Some c }
     ensures { result ≡ dates_in_order a }
 {
-    let references = a.references;
-    let date = references.date;
-    let c = a.characteristics;
-    let spot = a.spot;
-    let forward = a.forward;
     dates_ordered(
-        number_of(date),
+        a.references.date.unwrap_or(0),
         c.execution,
-        number_of(spot),
-        number_of(forward),
+        a.spot.unwrap_or(0),
+        a.forward.unwrap_or(0),
     )
 }
 
@@ -195,57 +152,26 @@ fn limit_too_long(limits: &[u64]) -> bool
     ensures { result ≡ limit_too_long limits.now }
 {
     let mut found = false;
-    let mut i = 0;
-    while i < limits.len() {
-        found = found | (999_999_999_999_999 < limits[i]);
-        i += 1;
+    for &limit in limits {
+        found |= 999_999_999_999_999 < limit;
     }
     found
 }
 
-// The first condition that holds of an admitted list and its limits, or that none does.
-fn admission_refusal(codes: &[u32], limits: &[u64]) -> OpenAnswer
+// Refuses by the first condition that holds of an admitted list and its limits.
+fn admission_refusal(codes: &[u32], limits: &[u64]) -> Result<(), OpenRefusal>
     ensures { open_refusal result ≡ admission_refused (admitting codes.now limits.now) }
 {
     if codes_bad(codes) {
-        return OpenAnswer::BadCodes;
+        return Err(OpenRefusal::BadCodes);
     }
     if limits.len() != codes.len() {
-        return OpenAnswer::LimitsMiscounted;
+        return Err(OpenRefusal::LimitsMiscounted);
     }
     if limit_too_long(limits) {
-        return OpenAnswer::LimitTooLong;
+        return Err(OpenRefusal::LimitTooLong);
     }
-    OpenAnswer::Opened
-}
-
-// The first condition of opening that holds, or that none does.
-fn refusal(m: &[u8], r: Reading, codes: &[u32], limits: &[u64]) -> OpenAnswer
-    requires { (r.readable, r.announcement) ≡ reading m.now }
-    ensures { open_refusal result ≡ opening_refused m.now (admitting codes.now limits.now) }
-{
-    if !r.readable {
-        return OpenAnswer::NotAnnouncement;
-    }
-    if other_origin(m) {
-        return OpenAnswer::OtherOrigin;
-    }
-    let a = r.announcement;
-    if !well_formed(a) {
-        return OpenAnswer::Malformed;
-    }
-    let kind = a.kind;
-    if is_unknown(kind) {
-        return OpenAnswer::UnknownType;
-    }
-    let c = a.characteristics;
-    if numbers_impossible(c) {
-        return OpenAnswer::Impossible;
-    }
-    if !in_order(a) {
-        return OpenAnswer::Disordered;
-    }
-    admission_refusal(codes, limits)
+    Ok(())
 }
 
 // A text of eleven bytes as an array.
@@ -254,46 +180,32 @@ fn eleven(s: &[u8]) -> [u8; 11]
     ensures { result ≡ s.now }
 {
     let mut a = [0u8; 11];
-    let mut i = 0;
-    while i < 11 {
-        a[i] = s[i];
-        i += 1;
-    }
+    a.copy_from_slice(s);
     a
 }
 
-// What a tender keeps of an announcement.
-fn terms_of(m: &[u8], a: Announcement) -> Terms
-    requires { (readable layout6_g0 m.now ≡ true) × (a ≡ announcement_of m.now) }
+// What a tender keeps of an announcement of this kind with these characteristics.
+fn terms_of(m: &[u8], a: Announcement, kind: Kind, c: Characteristics) -> Terms
+    requires m_value { (readable layout6_g0 m.now ≡ true) × (a ≡ announcement_of m.now) }
+    requires a_value { (a.kind ≡ Some kind) × (a.characteristics ≡ Some c) }
     ensures { (a : Admission) → viewed result a ≡ terms_of m.now a }
 {
-    let kind = a.kind;
-    let side = side_of(kind);
-    let cutoff = a.cutoff;
-    let c = a.characteristics;
-    let offered = c.offered;
-    let minimum = c.minimum;
-    let increment = c.increment;
-    let maximum = c.maximum;
-    let allocation = c.allocation;
-    let limit = c.limit;
-    let identifier = eleven(bytes_in(m, Field::Identifier));
     Terms {
-        identifier,
-        side,
+        identifier: eleven(bytes_in(m, Field::Identifier)),
+        side: kind.side,
         execution: c.execution,
-        cutoff: number_of(cutoff),
+        cutoff: a.cutoff.unwrap_or(0),
         most: c.most,
-        offered,
-        minimum,
-        increment,
-        maximum,
-        allocation,
-        limit,
+        offered: c.offered,
+        minimum: c.minimum,
+        increment: c.increment,
+        maximum: c.maximum,
+        allocation: c.allocation,
+        limit: c.limit,
     }
 }
 
-// The terms of the tender that a refused opening gives back.
+// The terms of the empty tender that a refused opening gives back.
 pub fn no_terms() -> Terms
     ensures { viewed result nobody ≡ no_terms }
 {
@@ -312,58 +224,45 @@ pub fn no_terms() -> Terms
     }
 }
 
-// Whether an answer is that the tender is opened.
-pub fn is_opened(a: OpenAnswer) -> bool
-    ensures { result ≡ is_opened a }
+// Document 01's number of a refusal to open.
+pub fn number_of(r: OpenRefusal) -> u64
+    ensures { result ≡ open_number r }
 {
-    match a {
-        OpenAnswer::Opened => true,
-        OpenAnswer::NotAnnouncement => false,
-        OpenAnswer::OtherOrigin => false,
-        OpenAnswer::Malformed => false,
-        OpenAnswer::UnknownType => false,
-        OpenAnswer::Impossible => false,
-        OpenAnswer::Disordered => false,
-        OpenAnswer::BadCodes => false,
-        OpenAnswer::LimitsMiscounted => false,
-        OpenAnswer::LimitTooLong => false,
+    match r {
+        OpenRefusal::NotAnnouncement => 1,
+        OpenRefusal::OtherOrigin => 2,
+        OpenRefusal::Malformed => 3,
+        OpenRefusal::UnknownType => 4,
+        OpenRefusal::Impossible => 5,
+        OpenRefusal::Disordered => 6,
+        OpenRefusal::BadCodes => 7,
+        OpenRefusal::LimitsMiscounted => 19,
+        OpenRefusal::LimitTooLong => 20,
     }
 }
 
-// Document 01's number of an answer, and zero where the tender is opened.
-pub fn number_of_answer(a: OpenAnswer) -> u64
-    ensures { result ≡ or_zero (open_refusal a) }
-{
-    match a {
-        OpenAnswer::Opened => 0,
-        OpenAnswer::NotAnnouncement => 1,
-        OpenAnswer::OtherOrigin => 2,
-        OpenAnswer::Malformed => 3,
-        OpenAnswer::UnknownType => 4,
-        OpenAnswer::Impossible => 5,
-        OpenAnswer::Disordered => 6,
-        OpenAnswer::BadCodes => 7,
-        OpenAnswer::LimitsMiscounted => 19,
-        OpenAnswer::LimitTooLong => 20,
-    }
-}
-
-// Opens a tender: the terms of the announcement, or why it is refused and no terms.
-pub fn open(m: &[u8], codes: &[u32], limits: &[u64]) -> Opening
+// Opens a tender: the terms of the announcement, unless one of the conditions 1 to 7, 19 and 20 refuses it.
+pub fn open(m: &[u8], codes: &[u32], limits: &[u64]) -> Result<Terms, OpenRefusal>
     ensures { OpensTerms m.now (admitting codes.now limits.now) result }
 {
-    let r = read(m);
-    let answer = refusal(m, r, codes, limits);
-    if is_opened(answer) {
-        let a = r.announcement;
-        Opening {
-            answer,
-            terms: terms_of(m, a),
-        }
-    } else {
-        Opening {
-            answer,
-            terms: no_terms(),
-        }
+    let Some(a) = read(m) else {
+        return Err(OpenRefusal::NotAnnouncement);
+    };
+    if other_origin(m) {
+        return Err(OpenRefusal::OtherOrigin);
     }
+    let Some(c) = well_formed(a) else {
+        return Err(OpenRefusal::Malformed);
+    };
+    let Some(kind) = a.kind else {
+        return Err(OpenRefusal::UnknownType);
+    };
+    if numbers_impossible(c) {
+        return Err(OpenRefusal::Impossible);
+    }
+    if !in_order(a, c) {
+        return Err(OpenRefusal::Disordered);
+    }
+    admission_refusal(codes, limits)?;
+    Ok(terms_of(m, a, kind, c))
 }

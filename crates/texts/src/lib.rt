@@ -12,10 +12,8 @@ pub fn same(a: &[u8], b: &[u8]) -> bool
         return false;
     }
     let mut ok = true;
-    let mut i = 0;
-    while i < a.len() {
-        ok = ok & (a[i] == b[i]);
-        i += 1;
+    for i in 0..a.len() {
+        ok &= a[i] == b[i];
     }
     ok
 }

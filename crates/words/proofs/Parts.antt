@@ -2,7 +2,7 @@
 use Rattle.std.proofs.Common.{◌≡◌, ℕ, ◌+◌, ◌-◌, ◌*◌, ◌^◌, ◌<◌, ◌≤◌, Bool, true, false, ◌&&◌, List, ◌++◌, length, take, drop, sym, refl, ap, ◌∙◌, ap₂, lt_of_lt_of_le, arith, lit<, length-drop, length-take-le, drop-drop, take-add, drop_at}
 use native.Mathlib.Nat.{pow-le-pow_right}
 use Rattle.laws.proofs.Tests.{and_left, and_right}
-use Rattle.digits.specs.declared.Digits.TheVariants.{Number, None}
+use Rattle.std.proofs.Common.{Some, None}
 use Rattle.digits.specs.Decimal.{all_digits, number_of, digits_of, is_number, number_in}
 use Rattle.digits.proofs.Reading.{number_is, none_is, number_below, number_join, number_shift, digits_join}
 
@@ -54,12 +54,12 @@ module _ (a b : List ℕ) where
   joined : (is_number (digits_of a) && is_number (digits_of b)) ≡ all_digits (a ++ b)
   joined = ap₂ ◌&&◌ (is_digits a) (is_digits b) ∙ sym (digits_join a b)
 
-  pub two_numbers : length b ≡ 8 → is_number (digits_of a) && is_number (digits_of b) ≡ true → Number (number_in (digits_of a) * 100000000 + number_in (digits_of b)) ≡ digits_of (a ++ b)
+  pub two_numbers : length b ≡ 8 → is_number (digits_of a) && is_number (digits_of b) ≡ true → Some (number_in (digits_of a) * 100000000 + number_in (digits_of b)) ≡ digits_of (a ++ b)
   two_numbers l h =
       let p = sym (is_digits a) ∙ and_left (is_number (digits_of a)) (is_number (digits_of b)) h in
       let q = sym (is_digits b) ∙ and_right (is_number (digits_of a)) (is_number (digits_of b)) h in
       let n : number_of (a ++ b) ≡ number_of a * 10 ^ 8 + number_of b = number_join 0 a b ∙ number_shift (number_of a) b ∙ ap (λ (k : ℕ). number_of a * 10 ^ k + number_of b) l in
-      rw (number_is a p, number_is b q) (sym (number_is (a ++ b) (sym joined ∙ h) ∙ ap Number n))
+      rw (number_is a p, number_is b q) (sym (number_is (a ++ b) (sym joined ∙ h) ∙ ap Some n))
 
   pub no_number : is_number (digits_of a) && is_number (digits_of b) ≡ false → None ≡ digits_of (a ++ b)
   no_number h = sym (none_is (a ++ b) (sym joined ∙ h))

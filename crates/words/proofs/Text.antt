@@ -4,7 +4,7 @@ use lib.ListN.{length-map}
 use Rattle.laws.proofs.Tests.{and_left, and_right}
 use Rattle.output.specs.Output.{Wrote}
 use Rattle.output.proofs.Output.{overlapped}
-use Rattle.digits.specs.declared.Digits.TheVariants.{Number}
+use Rattle.std.proofs.Common.{Some}
 use Rattle.digits.specs.Decimal.{all_digits, number_from, digits}
 use Rattle.digits.proofs.Reading.{number_is}
 use Rattle.digits.proofs.Writing.{number-written, digits_rest, digits_split, zero_digit}
@@ -75,7 +75,7 @@ module _ (t n : ℕ) (h : HoldsDigits n t) where
   word_text =
       let s = map up (low_bytes 8 t) in
       bytes_up 8 t h.small
-      ∙ sym (number-written 8 n s (length-map (low_bytes 8 t) up ∙ length-bytes 8 t) (number_is s (digits_up (low_bytes 8 t) h.small) ∙ ap Number (number_up 0 (low_bytes 8 t) ∙ h.number)))
+      ∙ sym (number-written 8 n s (length-map (low_bytes 8 t) up ∙ length-bytes 8 t) (number_is s (digits_up (low_bytes 8 t) h.small) ∙ ap Some (number_up 0 (low_bytes 8 t) ∙ h.number)))
 
   pub slash-text : n < 10000000 → low_bytes 8 (t + 0x303030303030302F) ≡ 47 ∷ digits 7 n
   slash-text l =

@@ -4,15 +4,12 @@ ghost use Rattle.output.specs.Output.{Wrote};
 ghost use Rattle.digits.specs.Decimal.{digits_of, digits};
 ghost use Rattle.words.specs.Words.{low_bytes, all_small, decimal, HoldsDigits, Lowered, AfterSlash};
 
-use digits::internal::wide;
-use digits::{Digits, has_number, number_of};
-
 // Four bytes as half a word, the first lowest.
 fn four_bytes(s: &[u8]) -> u64
     requires { length s.now ≡ 4 }
     ensures { (low_bytes 4 result ≡ s.now) × (result < 4294967296) }
 {
-    wide(s[0]) + wide(s[1]) * 256 + (wide(s[2]) + wide(s[3]) * 256) * 65536
+    u64::from(s[0]) + u64::from(s[1]) * 256 + (u64::from(s[2]) + u64::from(s[3]) * 256) * 65536
 }
 
 // Eight bytes as a word, the first lowest. In this shape the compiler makes it one load.
@@ -67,17 +64,14 @@ pub fn value(t: u64) -> u64
 }
 
 // What the bytes hold that a lowered word was made of.
-fn held(t: u64) -> Digits
+fn held(t: u64) -> Option<u64>
     ensures { (s : List ℕ) → Lowered s t → result ≡ digits_of s }
 {
-    if all_small(t) {
-        return Digits::Number(value(t));
-    }
-    Digits::None
+    if all_small(t) { Some(value(t)) } else { None }
 }
 
 // What eight bytes hold.
-pub fn eight(s: &[u8]) -> Digits
+pub fn eight(s: &[u8]) -> Option<u64>
     requires { length s.now ≡ 8 }
     ensures { result ≡ digits_of s.now }
 {
@@ -85,7 +79,7 @@ pub fn eight(s: &[u8]) -> Digits
 }
 
 // What the bytes after the first k of eight hold.
-pub fn last_of_eight(s: &[u8], k: usize) -> Digits
+pub fn last_of_eight(s: &[u8], k: usize) -> Option<u64>
     requires { (length s.now ≡ 8) × (k < 8) }
     ensures { result ≡ digits_of (drop k s.now) }
 {
@@ -93,7 +87,7 @@ pub fn last_of_eight(s: &[u8], k: usize) -> Digits
 }
 
 // The number in up to eight bytes of a text, between two indices of which the second is 8 or more.
-pub fn number_at(s: &[u8], from: usize, to: usize) -> Digits
+pub fn number_at(s: &[u8], from: usize, to: usize) -> Option<u64>
     requires { (from < to) × (to ≤ from + 8) × (8 ≤ to) × (to ≤ length s.now) }
     ensures { result ≡ digits_of (take (to - from) (drop from s.now)) }
 {
@@ -101,16 +95,13 @@ pub fn number_at(s: &[u8], from: usize, to: usize) -> Digits
 }
 
 // The same of nine to sixteen bytes, where the second index is 16 or more.
-pub fn long_number_at(s: &[u8], from: usize, to: usize) -> Digits
+pub fn long_number_at(s: &[u8], from: usize, to: usize) -> Option<u64>
     requires { (from + 8 < to) × (to ≤ from + 16) × (16 ≤ to) × (to ≤ length s.now) }
     ensures { result ≡ digits_of (take (to - from) (drop from s.now)) }
 {
-    let high = number_at(s, from, to - 8);
-    let low = number_at(s, to - 8, to);
-    if has_number(high) & has_number(low) {
-        return Digits::Number(number_of(high) * 100000000 + number_of(low));
-    }
-    Digits::None
+    let high = number_at(s, from, to - 8)?;
+    let low = number_at(s, to - 8, to)?;
+    Some(high * 100000000 + low)
 }
 
 // The word whose bytes are the eight digits of n, the first lowest: n is parted into fours, pairs
@@ -130,14 +121,12 @@ fn put_word(space: &mut [u8], at: usize, t: u64) -> usize
     requires { at + 8 ≤ length space.old }
     ensures { Wrote space.old at (low_bytes 8 t) space.new result × (result ≡ at + 8) }
 {
-    let mut i = 0;
     let mut left = t;
-    while i < 8 {
+    for i in 0..8 {
         space[at + i] = (left % 256) as u8;
-        left = left / 256;
-        i += 1;
+        left /= 256;
     }
-    at + i
+    at + 8
 }
 
 // Writes a number of up to eight digits as eight.

@@ -12,4 +12,4 @@ returns-then-is_6g0 c = rw (sym c.is_6g0.ensures ∙ c.if-is_6g0.true, c.announc
 
 pub returns-else-is_6g0 : goal.returns-else-is_6g0
 unfolding reading
-returns-else-is_6g0 c = rw (sym c.is_6g0.ensures ∙ c.if-is_6g0.false, c.no_announcement.ensures)
+returns-else-is_6g0 c = rw (sym c.is_6g0.ensures ∙ c.if-is_6g0.false)

@@ -13,29 +13,27 @@ use Rattle.bids.proofs.Columns.{ten-bids, bid_is}
 use Rattle.bids.proofs.Loops.{above_more, above_end}
 use Rattle.bids.proofs.is_over.Goals as goal
 
-pub loop-k-init : goal.loop-k-init
-loop-k-init c = (omega arith, λ rates. refl)
+pub loop-amount-init : goal.loop-amount-init
+loop-amount-init c = λ rates. refl
 
-pub loop-k-preserved : goal.loop-k-preserved
-loop-k-preserved c =
+pub loop-amount-preserved : goal.loop-amount-preserved
+loop-amount-preserved c =
     let start = c in
-    let l = c.loop-k in (
-      omega arith,
-      λ rates.
-          let bs = bids_from rates start.args.amounts 0 10 in
-          let rest = total (drop (l.k + 1) bs) in
-          let amount = (get_or start.args.amounts l.k no_amount).0 in
-          let e = ap (λ (b : Bid). b.amount) (sym (bid_is rates start.args.amounts 10 l.k (omega arith))) in
-          ap (λ (n : ℕ). (l.over || ltb l.left amount) || ltb n rest) c.less-left.ensures
-          ∙ ap (λ (a : ℕ). (l.over || ltb l.left a) || ltb (l.left - a) rest) e
-          ∙ above_more l.over l.left bs l.k (omega (arith, ten-bids rates start.args.amounts))
-          ∙ l.invariant.1 rates,
-    )
+    let l = c.loop-amount in
+    λ rates.
+    let bs = bids_from rates start.args.amounts 0 10 in
+    let rest = total (drop (l.amount-index + 1) bs) in
+    let amount = (get_or start.args.amounts l.amount-index no_amount).0 in
+    let e = ap (λ (b : Bid). b.amount) (sym (bid_is rates start.args.amounts 10 l.amount-index (omega arith))) in
+    ap (λ (n : ℕ). (l.over || ltb l.left amount) || ltb n rest) c.saturating_sub-left.ensures
+    ∙ ap (λ (a : ℕ). (l.over || ltb l.left a) || ltb (l.left - a) rest) e
+    ∙ above_more l.over l.left bs l.amount-index (omega (arith, ten-bids rates start.args.amounts))
+    ∙ l.invariant rates
 
 pub returns : goal.returns
 unfolding over_maximum
 returns c =
     let start = c in
     let a = start.args in
-    let l = c.loop-k in
-    ap (λ (b : Bool). not (eqb a.maximum.0 0) && b) (sym (above_end l.over l.left (bids_from a.rates a.amounts 0 10) l.k (omega (arith, ten-bids a.rates a.amounts))) ∙ l.invariant.1 a.rates)
+    let l = c.loop-amount in
+    ap (λ (b : Bool). not (eqb a.maximum.0 0) && b) (sym (above_end l.over l.left (bids_from a.rates a.amounts 0 10) l.amount-index (omega (arith, ten-bids a.rates a.amounts))) ∙ l.invariant a.rates)

@@ -3,7 +3,6 @@
 use mathlib.Core.Path.{◌≡◌}
 use mathlib.Core.Bool.{◌||◌}
 use mathlib.Core.List.{List}
-use Prim.Native.Nat.{◌-◌, ◌≤◌}
 use lib.Dec.{ltb}
 use lib.ListN.{drop}
 use Rattle.places.specs.declared.Rate.{Rate}
@@ -11,10 +10,6 @@ use Rattle.rules.specs.Allotment.{total}
 use Rattle.bids.specs.Columns.{bids_from}
 use Rattle.bids.proofs.is_over.Given as goal
 
-abbrev pub invariant-loop-k : goal.invariant-loop-k
-invariant-loop-k l =
-    (l.k ≤ 10)
-    × ((rates : List Rate) → (l.over || ltb l.left (total (drop l.k (bids_from rates l.amounts 0 10)))) ≡ ltb l.maximum.0 (total (bids_from rates l.amounts 0 10)))
-
-abbrev pub decreases-loop-k : goal.decreases-loop-k
-decreases-loop-k l = 10 - l.k
+abbrev pub invariant-loop-amount : goal.invariant-loop-amount
+invariant-loop-amount l =
+    (rates : List Rate) → (l.over || ltb l.left (total (drop l.amount-index (bids_from rates l.fn.amounts 0 10)))) ≡ ltb l.maximum.0 (total (bids_from rates l.fn.amounts 0 10))

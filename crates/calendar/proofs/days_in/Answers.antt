@@ -1,21 +1,21 @@
 -- `calendar::days_in` meets its contract. Assumes nothing.
-use borrow.Author.Tests.{eq-eqb, ne_eqb}
 use mathlib.Core.Path.{sym, ◌∙◌}
+use Rattle.std.proofs.Common.{rules}
 use Rattle.calendar.specs.Calendar.{days_in}
 use Rattle.calendar.proofs.days_in.Goals as goal
 
-pub returns-then-leap_year : goal.returns-then-leap_year
+pub returns-in-2 : goal.returns-in-2
 unfolding days_in
-returns-then-leap_year c = rw (eq-eqb c.args.m 2 c.if-m-eq2.true, sym c.leap_year.ensures ∙ c.if-leap_year.true)
+returns-in-2 c = rw (c.in-2.is, sym c.leap_year.ensures ∙ c.if-leap_year.true)
 
-pub returns-else-leap_year : goal.returns-else-leap_year
+pub returns-in-2-2 : goal.returns-in-2-2
 unfolding days_in
-returns-else-leap_year c = rw (eq-eqb c.args.m 2 c.if-m-eq2.true, sym c.leap_year.ensures ∙ c.if-leap_year.false)
+returns-in-2-2 c = rw (c.in-2.is, sym c.leap_year.ensures ∙ c.if-leap_year.false)
 
-pub returns-then-m : goal.returns-then-m
+pub returns-in-4 : goal.returns-in-4
 unfolding days_in
-returns-then-m c = rw (ne_eqb c.args.m 2 c.if-m-eq2.false, c.if-m.true)
+returns-in-4 c = search rules
 
-pub returns-else-m : goal.returns-else-m
+pub returns-in_default : goal.returns-in_default
 unfolding days_in
-returns-else-m c = rw (ne_eqb c.args.m 2 c.if-m-eq2.false, c.if-m.false)
+returns-in_default c = search rules

@@ -6,8 +6,5 @@ use lib.ListN.{length, drop}
 use Rattle.digits.specs.Decimal.{all_digits}
 use Rattle.digits.proofs.all_digits.Given as goal
 
-abbrev pub invariant-loop-i : goal.invariant-loop-i
-invariant-loop-i l = (l.i ≤ length l.s) × ((l.ok && all_digits (drop l.i l.s)) ≡ all_digits l.s)
-
-abbrev pub decreases-loop-i : goal.decreases-loop-i
-decreases-loop-i l = length l.s - l.i
+abbrev pub invariant-loop-b : goal.invariant-loop-b
+invariant-loop-b l = ((l.ok && all_digits (drop l.b-index l.s)) ≡ all_digits l.s)

@@ -5,8 +5,8 @@ use lib.ListN.{length, drop}
 use Rattle.endings.specs.Endings.{left_of}
 use Rattle.endings.proofs.left_at.Given as goal
 
-abbrev pub invariant-loop-at : goal.invariant-loop-at
-invariant-loop-at l = (l.at ≤ length l.input) × (left_of (drop l.at l.input) ≡ left_of l.input)
+abbrev pub invariant-loop-end : goal.invariant-loop-end
+invariant-loop-end l = (l.at ≤ length l.input) × (left_of (drop l.at l.input) ≡ left_of l.input)
 
-abbrev pub decreases-loop-at : goal.decreases-loop-at
-decreases-loop-at l = length l.input - l.at
+abbrev pub decreases-loop-end : goal.decreases-loop-end
+decreases-loop-end l = length l.input - l.at

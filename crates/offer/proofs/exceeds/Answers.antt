@@ -26,18 +26,18 @@ above_end : (over : Bool) (left : ℕ) (ns : List ℕ) (i : ℕ) → length ns �
 unfolding sum
 above_end over left ns i h = rw (drop_of_length-le ns h, le-ltb left 0 (omega arith)) (or-false over)
 
-pub loop-i-init : goal.loop-i-init
-loop-i-init c = refl
+pub loop-amount-init : goal.loop-amount-init
+loop-amount-init c = refl
 
-pub loop-i-preserved : goal.loop-i-preserved
-loop-i-preserved c =
+pub loop-amount-preserved : goal.loop-amount-preserved
+loop-amount-preserved c =
     let amounts = c.args.amounts.now in
-    let l = c.loop-i in
-    ap (λ (n : ℕ). (l.over || ltb l.left (get_or amounts l.i 0)) || ltb n (sum (drop (l.i + 1) amounts))) c.less-left.ensures
-    ∙ above_more l.over l.left amounts l.i (omega arith)
+    let l = c.loop-amount in
+    ap (λ (n : ℕ). (l.over || ltb l.left (get_or amounts l.amount-index 0)) || ltb n (sum (drop (l.amount-index + 1) amounts))) c.saturating_sub-left.ensures
+    ∙ above_more l.over l.left amounts l.amount-index (omega arith)
     ∙ l.invariant
 
 pub returns : goal.returns
 returns c =
-    let l = c.loop-i in
-    sym (above_end l.over l.left c.args.amounts.now l.i (omega arith)) ∙ l.invariant
+    let l = c.loop-amount in
+    sym (above_end l.over l.left c.args.amounts.now l.amount-index (omega arith)) ∙ l.invariant

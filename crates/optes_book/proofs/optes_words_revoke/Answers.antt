@@ -1,5 +1,6 @@
 -- `optes_book::optes_words_revoke` meets its contract. Assumes nothing.
-use mathlib.Core.Path.{◌≡◌, sym, ◌∙◌}
+use Rattle.std.specs.Prelude.{Ok, Err}
+use mathlib.Core.Path.{◌≡◌, refl, sym, ◌∙◌}
 use mathlib.Core.Bool.{true}
 use borrow.Author.Tests.{not-true, not-false}
 use Rattle.rules.specs.Calls.{revoke}
@@ -13,16 +14,19 @@ returns-then-not-is_tender c =
     let ws = a.words.now in
     changes_not ws (revoke (tender_in ws)) 3 (sym c.is_tender.ensures ∙ not-true _ c.if-not-is_tender.true-raw)
 
-pub revoke_in-refusal-requires : goal.revoke_in-refusal-requires
-revoke_in-refusal-requires c =
+pub revoke_in-requires : goal.revoke_in-requires
+revoke_in-requires c =
     let given : is_tender c.args.words.now ≡ true = sym c.is_tender.ensures ∙ not-false _ c.if-not-is_tender.false-raw in
     given
 
-pub returns : goal.returns
-returns c =
+pub returns-in-Ok : goal.returns-in-Ok
+returns-in-Ok c =
     let given : is_tender c.args.words.now ≡ true = sym c.is_tender.ensures ∙ not-false _ c.if-not-is_tender.false-raw in
-    let x = c in
-    let l = x in
-    let a = l.args in
-    let ws = a.words.now in
-    changes_in ws (revoke (tender_in ws)) 3 given x.revoke_in-refusal.result c.number_of.result _ x.revoke_in-refusal.ensures c.number_of.ensures
+    let a = c.args in
+    changes_in a.words.now (revoke (tender_in a.words.now)) 3 given (Ok tt) 0 _ c.in-Ok.ensures refl
+
+pub returns-in-Err : goal.returns-in-Err
+returns-in-Err c =
+    let given : is_tender c.args.words.now ≡ true = sym c.is_tender.ensures ∙ not-false _ c.if-not-is_tender.false-raw in
+    let a = c.args in
+    changes_in a.words.now (revoke (tender_in a.words.now)) 3 given (Err c.in-Err.refusal) c.number_of.result _ c.in-Err.ensures c.number_of.ensures

@@ -1,16 +1,17 @@
 -- `tender::in_state_unless` meets its contract. Assumes nothing.
-use mathlib.Core.Path.{refl, sym, ◌∙◌}
-use Rattle.refusals.specs.Conditions.{refusal_number}
-use Rattle.refusals.proofs.Conditions.{none_of}
+use Rattle.std.specs.Prelude.{Ok}
+use mathlib.Core.Path.{◌≡◌, sym}
 use Rattle.tender.proofs.Changing.{changes_refused, changes_state}
 use Rattle.tender.proofs.in_state_unless.Goals as goal
 
-pub returns-then-is_refused : goal.returns-then-is_refused
-returns-then-is_refused c =
-    let a = c in
-    (refl, changes_refused a.args.t a.requires a.args.refusal a.args.state (sym c.is_refused.ensures ∙ c.if-is_refused.true))
+pub returns-in-Ok : goal.returns-in-Ok
+returns-in-Ok c =
+    let a = c.args in
+    let asked : a.answer ≡ Ok tt = c.in-Ok.is in
+    (sym asked, rw asked (changes_state a.t c.requires a.state c.in_state.result c.in_state.ensures))
 
-pub returns : goal.returns
-returns c =
-    let a = c in
-    (refl, changes_state a.args.t a.requires a.args.refusal a.args.state c.in_state.result (none_of (refusal_number a.args.refusal) (sym c.is_refused.ensures ∙ c.if-is_refused.false)) c.in_state.ensures)
+pub returns-in-Err : goal.returns-in-Err
+returns-in-Err c =
+    let a = c.args in
+    let asked = c.in-Err.is in
+    (sym asked, rw asked (changes_refused a.t c.requires a.state c.in-Err.refusal))

@@ -1,23 +1,21 @@
 -- `tender::outcome_of` meets its contract: refused, or judged where the code stands in the book. Assumes nothing.
+use Rattle.std.specs.Prelude.{Err}
 use mathlib.Core.Path.{◌≡◌, refl, sym, ap, ◌∙◌}
-use mathlib.Core.Option.{none}
 use Prim.Native.Nat.{ℕ}
 use lib.ListN.{length}
 use Rattle.laws.proofs.Arrays.{length_mapped}
 use Rattle.book.specs.Viewed.{viewed, find_from, taken_at}
 use Rattle.book.proofs.Joining.{index_below}
-use Rattle.refusals.specs.Conditions.{refusal_number}
-use Rattle.refusals.proofs.Conditions.{none_of}
 use Rattle.outcomes.proofs.Outcomes.{comes-refused, comes_judged}
 use borrow.Author.Rules.{rules}
 use Rattle.tender.proofs.outcome_of.Goals as goal
 
-pub returns-then-is_refused : goal.returns-then-is_refused
-returns-then-is_refused c =
-    let k = c in
-    let a = k.args in
-    let e = c.refused_with.ensures in
-    comes-refused a.t.state a.t.terms a.t.book a.m.now a.date a.time a.room k.receiving_checks-checked.result k.receiving_checks-checked.ensures c.refused_with.result (sym c.is_refused.ensures ∙ c.if-is_refused.true) e.0 e.1 e.2
+pub returns-in_err-fields : goal.returns-in_err-fields
+returns-in_err-fields c =
+    let a = c.args in
+    let f = c.in_err-fields.field-0.0 in
+    let told : c.from_residual.result ≡ Err f = search rules in
+    rw told (comes-refused a.t.state a.t.terms a.t.book a.m.now a.date a.time a.room f c.in_err-fields.ensures)
 
 pub slice_bounds-find_in-end : goal.slice_bounds-find_in-end
 slice_bounds-find_in-end c =
@@ -49,21 +47,14 @@ takes_at-taken-requires c =
 
 pub judged-requires : goal.judged-requires
 judged-requires c =
-    let unrefused : refusal_number c.receiving_checks-checked.result.refusal ≡ none = none_of _ (sym c.is_refused.ensures ∙ c.if-is_refused.false) in
-    let l = c in
-    let e = l.receiving_checks-checked.ensures in
-    record { m_value = e.readable-told unrefused; f_value = e.fields_are unrefused; time_value = e.clock_valid unrefused }
+    let e = c.in_ok-fields.ensures in
+    record { m_value = e.readable-told refl; f_value = e.fields_are; time_value = e.clock_valid refl }
 
 pub returns : goal.returns
 returns c =
-    let unrefused : refusal_number c.receiving_checks-checked.result.refusal ≡ none = none_of _ (sym c.is_refused.ensures ∙ c.if-is_refused.false) in
-    let t = c in
-    let f = t in
-    let l = f in
-    let k = l in
-    let start = k in
-    let a = start.args in
+    let a = c.args in
     let b = a.t.book in
-    let found = f.find_in-found.ensures b refl refl ∙ ap (λ (code : ℕ). find_from (viewed b) code 0) f.code_of.ensures in
-    let taken = t.takes_at-taken.ensures b refl refl ∙ ap (taken_at b f.find_in-found.result) t.number_of-sent.ensures in
-    comes_judged a.t.state a.t.terms b a.m.now a.date a.time a.room k.receiving_checks-checked.result k.receiving_checks-checked.ensures c.judged.result unrefused f.find_in-found.result t.takes_at-taken.result (record { rises = start.requires.rises; found_is = found; taken_is = taken }) c.judged.ensures
+    let found = c.find_in-found.ensures b refl refl ∙ ap (λ (code : ℕ). find_from (viewed b) code 0) c.code_of.ensures in
+    let taken = c.takes_at-taken.ensures b refl refl ∙ ap (taken_at b c.find_in-found.result) c.unwrap_or-sent.ensures in
+    comes_judged a.t.state a.t.terms b a.m.now a.date a.time a.room c.in_ok-fields.fields c.in_ok-fields.ensures c.find_in-found.result c.takes_at-taken.result
+    (record { rises = c.requires.rises; found_is = found; taken_is = taken }) c.judged.result c.judged.ensures

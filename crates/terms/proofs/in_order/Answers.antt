@@ -4,4 +4,4 @@ use Rattle.terms.proofs.in_order.Goals as goal
 
 pub returns : goal.returns
 unfolding dates_in_order
-returns c = rw (c.dates_ordered.ensures, c.number_of.ensures, c.number_of-2.ensures, c.number_of-3.ensures)
+returns c = rw (c.dates_ordered.ensures, c.unwrap_or.ensures, c.unwrap_or-2.ensures, c.unwrap_or-3.ensures, c.requires)

@@ -4,4 +4,4 @@ use Rattle.terms.proofs.references_formed.Goals as goal
 
 pub returns : goal.returns
 unfolding references_formed
-returns c = rw (c.has_number.ensures, c.has_number-2.ensures, c.is_date.ensures, c.is_time.ensures)
+returns c = rw (c.is_some.ensures, c.is_some-2.ensures, c.is_date.ensures, c.is_time.ensures)

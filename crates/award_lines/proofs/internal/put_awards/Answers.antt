@@ -1,5 +1,5 @@
 -- `award_lines::internal::put_awards` meets its contract. The loop's invariant: the lines of the first i awards are written. Assumes nothing.
-use mathlib.Core.Path.{refl, ◌∙◌}
+use mathlib.Core.Path.{◌∙◌}
 use mathlib.Core.List.{map}
 use native.Mathlib.Omega.{arith}
 use lib.ListN.{length-map}
@@ -10,30 +10,20 @@ use Rattle.award_lines.proofs.internal.put_awards.Goals as goal
 
 pub loop-i-init : goal.loop-i-init
 unfolding lines_from
-loop-i-init c =
-    let s = c in
-    (omega arith, s.requires.rates_len, s.requires.awards_len, s.requires.awards_in_bounds, refl, omega arith, nothing s.args.space.now 0)
+loop-i-init c = (omega arith, nothing c.args.space.now 0)
 
 pub loop-i-preserved : goal.loop-i-preserved
 loop-i-preserved c =
-    let w = c in
-    let rate = w.narrow.ensures in
-    let l = w in
-    let a = l.args in (
+    let a = c.args in
+    let l = c.loop-i in (
       omega arith,
-      l.loop-i.invariant.1,
-      l.loop-i.invariant.2,
-      l.loop-i.invariant.3,
-      omega arith,
-      omega arith,
-      said (lines_more a.codes.now (map low32 a.rates.now) a.awards.now l.loop-i.i)
-          (then (omega arith) l.loop-i.invariant.6 (said (line_narrowed a.codes.now a.rates.now a.awards.now l.loop-i.i _ rate) w.put_if_any-at.ensures.0)),
+      said (lines_more a.codes.now (map low32 a.rates.now) a.awards.now l.i)
+          (then (omega arith) l.invariant.1 (said (line_narrowed a.codes.now a.rates.now a.awards.now l.i _ c.narrow.ensures) c.put_if_any-at.ensures.0)),
     )
 
 pub returns : goal.returns
 returns c =
     let l = c.loop-i in
-    let s = c in
-    let a = s.args in
+    let a = c.args in
     λ b amounts same alike.
-    said (lines-viewed a.codes.now (map low32 a.rates.now) a.awards.now b amounts l.i (length-map a.rates.now low32 ∙ s.requires.rates_len) s.requires.awards_len (omega arith) same alike) l.invariant.6
+    said (lines-viewed a.codes.now (map low32 a.rates.now) a.awards.now b amounts l.i (length-map a.rates.now low32 ∙ c.requires.rates_len) c.requires.awards_len (omega arith) same alike) l.invariant.1

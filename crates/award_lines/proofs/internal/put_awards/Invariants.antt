@@ -1,8 +1,6 @@
 -- `award_lines::internal::put_awards` meets its contract. The loop's invariant: the lines of the first i awards are written. Assumes nothing.
-use mathlib.Core.Path.{◌≡◌}
 use mathlib.Core.List.{map}
-use Prim.Native.Nat.{◌*◌, ◌-◌, ◌≤◌}
-use lib.ListN.{length}
+use Prim.Native.Nat.{◌*◌, ◌≤◌}
 use Rattle.output.specs.Output.{Wrote}
 use Rattle.buffer.specs.Words.{low32}
 use Rattle.award_lines.proofs.Places.{lines_from}
@@ -10,8 +8,4 @@ use Rattle.award_lines.proofs.internal.put_awards.Given as goal
 
 abbrev pub invariant-loop-i : goal.invariant-loop-i
 invariant-loop-i l =
-    (l.i ≤ length l.awards) × (length l.rates ≡ 10 * length l.codes) × (length l.awards ≡ 10 * length l.codes) × (36 * length l.awards ≤ length l.initial.space)
-    × (length l.space ≡ length l.initial.space) × (l.at ≤ 36 * l.i) × Wrote l.initial.space 0 (lines_from l.codes (map low32 l.rates) l.awards 0 l.i) l.space l.at
-
-abbrev pub decreases-loop-i : goal.decreases-loop-i
-decreases-loop-i l = length l.awards - l.i
+    (l.at ≤ 36 * l.i) × Wrote l.initial.space 0 (lines_from l.codes (map low32 l.rates) l.awards 0 l.i) l.space l.at

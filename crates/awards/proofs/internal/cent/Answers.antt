@@ -1,14 +1,24 @@
 -- `awards::internal::cent` meets its contract. Assumes nothing.
-use mathlib.Core.Path.{sym, ◌∙◌}
+use mathlib.Core.Path.{◌≡◌, refl, ap, ◌∙◌}
+use mathlib.Core.Bool.{Bool, true, false, cond, ◌&&◌}
+use Prim.Native.Nat.{ℕ, ◌≤◌}
 use native.Mathlib.Omega.{arith}
-use borrow.Author.Tests.{lt-ltb, le-ltb}
+use borrow.Author.Tests.{ltb-true}
+use lib.Dec.{ltb}
+use Rattle.bids.proofs.Loops.{flag_is, one_at_most}
 use Rattle.awards.proofs.internal.cent.Goals as goal
 
-pub returns-then-left-gt0 : goal.returns-then-left-gt0
-returns-then-left-gt0 c = (rw (sym c.stands_equal.ensures ∙ c.if-stands_equal.true, lt-ltb 0 _ c.if-left-gt0.true), omega arith, omega arith)
+cent_le : (s : Bool) (left : ℕ) → cond (s && ltb 0 left) 1 0 ≤ left
+cent_le s left = go s (ltb 0 left) refl
+  where
+    go : (s t : Bool) → ltb 0 left ≡ t → cond (s && t) 1 0 ≤ left
+    go true true e = omega (arith, ltb-true)
+    go true false e = omega arith
+    go false t e = omega arith
 
-pub returns-else-left-gt0 : goal.returns-else-left-gt0
-returns-else-left-gt0 c = (rw (sym c.stands_equal.ensures ∙ c.if-stands_equal.true, le-ltb 0 _ c.if-left-gt0.false), omega arith, omega arith)
-
-pub returns-else-stands_equal : goal.returns-else-stands_equal
-returns-else-stands_equal c = (rw (sym c.stands_equal.ensures ∙ c.if-stands_equal.false), omega arith, omega arith)
+pub returns : goal.returns
+returns c =
+    let left = c.args.left in
+    let told = c.stands_equal.result && ltb 0 left in
+    let is : c.from.result ≡ cond told 1 0 = c.from.ensures ∙ flag_is told in
+    (is ∙ ap {B = ℕ} (λ (s : Bool). cond (s && ltb 0 left) 1 0) c.stands_equal.ensures, omega (arith, is, cent_le c.stands_equal.result left), omega (arith, is, one_at_most told))

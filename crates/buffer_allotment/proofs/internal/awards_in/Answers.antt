@@ -1,8 +1,7 @@
 -- `buffer_allotment::internal::awards_in` meets its contract. Assumes nothing.
 use mathlib.Core.Path.{◌≡◌, sym, ap, subst, ◌∙◌}
 use mathlib.Core.List.{List, ◌++◌}
-use mathlib.Core.Option.{Option}
-use Prim.Native.Nat.{ℕ, ◌+◌, ◌*◌, ◌-◌, ◌≤◌}
+use Prim.Native.Nat.{ℕ, ◌*◌, ◌-◌, ◌≤◌}
 use native.Mathlib.Omega.{arith}
 use lib.ListN.{length, take, drop, get_or, replicate, length-replicate}
 use lib.Seq.{length-take-le}
@@ -12,7 +11,7 @@ use Rattle.refusals.specs.Conditions.{refusal_number}
 use Rattle.outcomes.specs.Outcomes.{viewed_of}
 use Rattle.outcomes.specs.Allotting.{AllotsBids}
 use Rattle.outcomes.proofs.Awarding.{lent_length, allots-places}
-use Rattle.buffer.specs.Words.{tender_words, part, state_in, terms_in, book_in, tender_in}
+use Rattle.buffer.specs.Words.{tender_words, part, state_in, book_in, tender_in}
 use Rattle.buffer.proofs.Parts.{part_length}
 use Rattle.buffer.proofs.Words.{known}
 use Rattle.buffer_allotment.specs.Allotted.{AllotsWords}

@@ -4,7 +4,7 @@ use mathlib.Core.Option.{Option}
 use Prim.Native.Nat.{ℕ}
 use native.Mathlib.Omega.{arith}
 use Rattle.refusals.specs.declared.State.{State}
-use Rattle.refusals.specs.Conditions.{state_of, ended}
+use Rattle.refusals.specs.Conditions.{state_of, refusal_number, ended}
 use Rattle.outcomes.specs.Allotting.{AllotsPlaces}
 use Rattle.outcomes.proofs.Awarding.{preview_is}
 use Rattle.buffer.specs.Words.{tender_in}
@@ -23,6 +23,6 @@ returns c =
     let a = c.awards_in in
     let e = c in
     let ws = c.args.words.now in
-    preview_is (tender_in ws) a.result.refusal (allotted_in a.result a.new.awards)
-    (subst (λ (l : Option ℕ). AllotsPlaces l (tender_in ws) a.result.refusal (allotted_in a.result a.new.awards))
+    preview_is (tender_in ws) (refusal_number a.result) (allotted_in a.result a.new.awards)
+    (subst (λ (l : Option ℕ). AllotsPlaces l (tender_in ws) (refusal_number a.result) (allotted_in a.result a.new.awards))
     (e.ended_refusal.ensures ∙ ap (λ (s : State). ended (state_of s)) e.state_of-state.ensures) a.ensures)

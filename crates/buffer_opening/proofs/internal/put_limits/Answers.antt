@@ -1,14 +1,15 @@
 -- `buffer_opening::internal::put_limits` meets its contract. Assumes nothing.
 use Prim.Native.Nat.{ℕ, ◌-◌}
+use borrow.Author.Rules.{rules}
 use native.Mathlib.Omega.{arith}
 use lib.ListN.{length, length-replicate}
-use Rattle.output.proofs.Output.{then}
+use Rattle.output.proofs.Output.{then, said}
+use Rattle.numbers.proofs.Arrays.{map_same}
 use Rattle.buffer_opening.proofs.internal.put_limits.Goals as goal
 
 pub returns : goal.returns
 returns c =
-    let start = c in
-    let written = c.put_words-free_at.ensures in
+    let limits = c.args.limits.now in
+    let written = said (map_same limits) (c.put_each-free_at.ensures.wrote (λ n. n) (λ n k e. search rules)) in
     let zeros = c.put_zeros.ensures in
-    let few = start.requires.1 in
-    (then (let room = start.requires.0 in omega arith) written zeros, omega (arith, written.past, zeros.past, length-replicate {A = ℕ} (64 - length start.args.limits.now) 0, few))
+    (then (let room = c.requires.0 in omega arith) written zeros, omega (arith, written.past, zeros.past, length-replicate {A = ℕ} (64 - length limits) 0, c.requires.1))

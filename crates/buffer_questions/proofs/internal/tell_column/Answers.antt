@@ -2,11 +2,13 @@
 use mathlib.Core.Path.{ap, ◌∙◌}
 use mathlib.Core.List.{List}
 use Prim.Native.Nat.{ℕ, ◌+◌, ◌-◌}
+use borrow.Author.Rules.{rules}
 use native.Mathlib.Omega.{arith}
 use lib.ListN.{drop, get_or, length-drop}
 use lib.Seq.{length-take-le}
 use Rattle.numbers.specs.Numbers.{in_array}
-use Rattle.numbers.proofs.Arrays.{and_then}
+use Rattle.output.proofs.Output.{said}
+use Rattle.numbers.proofs.Arrays.{map_same, and_then}
 use Rattle.buffer.proofs.Words.{Known, known}
 use Rattle.buffer_questions.proofs.Codes.{column_told}
 use Rattle.buffer_questions.proofs.internal.tell_column.Goals as goal
@@ -26,13 +28,13 @@ overflow_add-from c =
     let known_there : Known c.args.words.now = known c.args.words.now c.requires.0 in
     omega (arith, known_there.few-codes, c.requires.1)
 
-pub slice_bounds-put_words-end-2 : goal.slice_bounds-put_words-end-2
-slice_bounds-put_words-end-2 c =
+pub slice_bounds-put_each-end-2 : goal.slice_bounds-put_each-end-2
+slice_bounds-put_each-end-2 c =
     let known_there : Known c.args.words.now = known c.args.words.now c.requires.0 in
     omega (arith, known_there.long, known_there.few-codes, c.requires.1)
 
-pub put_words-requires : goal.put_words-requires
-put_words-requires c =
+pub put_each-requires : goal.put_each-requires
+put_each-requires c =
     let known_there : Known c.args.words.now = known c.args.words.now c.requires.0 in
     let start = c in
     let ws = start.args.words.now in
@@ -47,5 +49,5 @@ returns c =
     let known_there : Known c.args.words.now = known c.args.words.now c.requires.0 in
     let start = c in
     let a = start.args in
-    let all = column_told a.words.now a.from known_there start.requires.1 (and_then c.put-column_at.ensures c.put_words.ensures) in
+    let all = column_told a.words.now a.from known_there start.requires.1 (and_then c.put-column_at.ensures (said (map_same _) (c.put_each.ensures.wrote (λ n. n) (λ n k e. search rules)))) in
     c.put_first.ensures ∙ ap (λ (l : List ℕ). in_array l a.told.now) all

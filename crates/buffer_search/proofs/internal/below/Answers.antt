@@ -1,6 +1,6 @@
 -- `buffer_search::internal::below` meets its contract. The loop's invariant: all codes before the index are below. Assumes nothing.
 use mathlib.Core.Path.{sym, ◌∙◌}
-use Prim.Native.Nat.{◌+◌, ◌-◌}
+use Prim.Native.Nat.{◌+◌}
 use native.Mathlib.Omega.{arith}
 use Rattle.buffer_search.specs.Search.{AllBelow}
 use Rattle.buffer_search.proofs.Search.{none_passed, passed}
@@ -11,9 +11,6 @@ loop-at-init c = none_passed c.args.codes.now c.args.code
 
 pub overflow_add-at : goal.overflow_add-at
 overflow_add-at c = omega (arith, c.loop-at.invariant.inside)
-
-pub is_below-requires : goal.is_below-requires
-is_below-requires c = tt
 
 pub overflow_add-at-in-loop-at : goal.overflow_add-at-in-loop-at
 overflow_add-at-in-loop-at c =
@@ -32,9 +29,3 @@ loop-at-preserved c =
     let further : AllBelow c.args.codes.now (c.loop-at.at + 8) c.args.code = let start = c in
     passed start.args.codes.now start.requires start.args.code (c.loop-at.at + 7) (c.loop-at.at + 8) (omega arith) (sym c.is_below.ensures ∙ c.loop-at-test.true) in
     further
-
-pub below_from-requires : goal.below_from-requires
-below_from-requires c = (c.requires, c.loop-at.invariant)
-
-pub returns : goal.returns
-returns c = c.below_from.ensures

@@ -1,16 +1,10 @@
 -- `buffer_search::internal::below_from` meets its contract. The loop's invariant: all codes before the index are below. Assumes nothing.
 use mathlib.Core.Path.{sym, ◌∙◌}
-use Prim.Native.Nat.{◌+◌, ◌-◌}
+use Prim.Native.Nat.{◌+◌}
 use native.Mathlib.Omega.{arith}
 use Rattle.buffer_search.specs.Search.{AllBelow}
 use Rattle.buffer_search.proofs.Search.{passed, not_passed}
 use Rattle.buffer_search.proofs.internal.below_from.Goals as goal
-
-pub loop-at-init : goal.loop-at-init
-loop-at-init c = c.requires.1
-
-pub is_below-requires : goal.is_below-requires
-is_below-requires c = tt
 
 pub overflow_add-at : goal.overflow_add-at
 overflow_add-at c =

@@ -1,23 +1,14 @@
 -- `buffer_search::internal::search` meets its contract. Assumes nothing.
 use Rattle.buffer_search.proofs.Search.{search_found, search_past, search_other}
+use Rattle.buffer_search.proofs.internal.search.Goals.{else-at-codes-via-then-at-codes+else-codes-at, else-at-codes-via-else-at-codes}
 use Rattle.buffer_search.proofs.internal.search.Goals as goal
 
 pub returns-then-codes-at : goal.returns-then-codes-at
-returns-then-codes-at c =
-    let b = c in
-    let start = b in
-    search_past start.args.codes.now start.requires start.args.code b.below-at.result b.below-at.ensures c.if-codes-at.true
+returns-then-codes-at c = search_found c.args.codes.now c.requires c.args.code c.below-at.result c.below-at.ensures c.if-at-codes.true c.if-codes-at.true
 
-pub returns-then-codes-at-2 : goal.returns-then-codes-at-2
-returns-then-codes-at-2 c =
-    let l = c in
-    let b = l in
-    let start = b in
-    search_found start.args.codes.now start.requires start.args.code b.below-at.result b.below-at.ensures l.if-codes-at.false c.if-codes-at-2.true
-
-pub returns : goal.returns
-returns c =
-    let l = c in
-    let b = l in
-    let start = b in
-    search_other start.args.codes.now start.requires start.args.code b.below-at.result b.below-at.ensures l.if-codes-at.false c.if-codes-at-2.false
+pub returns-else-at-codes : goal.returns-else-at-codes
+returns-else-at-codes c =
+    elim c.else-at-codes.branch [
+      | else-at-codes-via-then-at-codes+else-codes-at w ↦ search_other c.args.codes.now c.requires c.args.code c.below-at.result c.below-at.ensures w.if-at-codes.true w.if-codes-at.false
+      | else-at-codes-via-else-at-codes w ↦ search_past c.args.codes.now c.requires c.args.code c.below-at.result c.below-at.ensures w.if-at-codes.false
+    ]

@@ -7,16 +7,15 @@ use native.Mathlib.Omega.{arith}
 use lib.Dec.{eqb, ltb}
 use lib.ListN.{get_or}
 use borrow.Author.Tests.{eqb-true, eqb-false, lt-ltb, le-ltb}
+use Rattle.std.specs.Prelude.{Option, Some}
 use Rattle.rules.specs.Receiving.{is_after}
-use Rattle.book.specs.declared.Found.{Found}
-use Rattle.book.specs.declared.Found.TheVariants.{At}
 use Rattle.book.specs.Viewed.{index_of, taken_at}
 use Rattle.buffer.specs.Words.{book_in}
 use Rattle.buffer.proofs.Words.{held_at_lem}
 use Rattle.buffer_search.proofs.internal.takes.Goals as goal
 
 -- the index found is below 64
-below : (found : Found) (i : ℕ) → found ≡ At i → index_of found < 64 → i < 64
+below : (found : Option ℕ) (i : ℕ) → found ≡ Some i → index_of found < 64 → i < 64
 below found i e h = omega (arith, h, ap index_of e)
 
 -- a word that is zero is no flag
@@ -33,42 +32,42 @@ after-held flag held time = go (eqb flag 0) refl
 
 pub overflow_add-result : goal.overflow_add-result
 overflow_add-result c =
-    let at_64 : c.in-At.at < 64 = below _ _ c.in-At.is c.requires.1 in
+    let at_64 : c.in-Some.at < 64 = below _ _ c.in-Some.is c.requires.1 in
     omega (arith, at_64)
 
 pub offset_bounds-words-at : goal.offset_bounds-words-at
 offset_bounds-words-at c =
-    let at_64 : c.in-At.at < 64 = below _ _ c.in-At.is c.requires.1 in
+    let at_64 : c.in-Some.at < 64 = below _ _ c.in-Some.is c.requires.1 in
     omega (arith, at_64)
 
 pub bounds-words-at : goal.bounds-words-at
 bounds-words-at c =
-    let at_64 : c.in-At.at < 64 = below _ _ c.in-At.is c.requires.1 in
+    let at_64 : c.in-Some.at < 64 = below _ _ c.in-Some.is c.requires.1 in
     omega (arith, at_64, c.requires.0)
 
-pub overflow_add-result-in-At : goal.overflow_add-result-in-At
-overflow_add-result-in-At c =
-    let at_64 : c.in-At.at < 64 = below _ _ c.in-At.is c.requires.1 in
+pub overflow_add-result-in-Some : goal.overflow_add-result-in-Some
+overflow_add-result-in-Some c =
+    let at_64 : c.in-Some.at < 64 = below _ _ c.in-Some.is c.requires.1 in
     omega (arith, at_64)
 
-pub offset_bounds-words-at-in-At : goal.offset_bounds-words-at-in-At
-offset_bounds-words-at-in-At c =
-    let at_64 : c.in-At.at < 64 = below _ _ c.in-At.is c.requires.1 in
+pub offset_bounds-words-at-in-Some : goal.offset_bounds-words-at-in-Some
+offset_bounds-words-at-in-Some c =
+    let at_64 : c.in-Some.at < 64 = below _ _ c.in-Some.is c.requires.1 in
     omega (arith, at_64)
 
-pub bounds-words-at-in-At : goal.bounds-words-at-in-At
-bounds-words-at-in-At c =
-    let at_64 : c.in-At.at < 64 = below _ _ c.in-At.is c.requires.1 in
+pub bounds-words-at-in-Some : goal.bounds-words-at-in-Some
+bounds-words-at-in-Some c =
+    let at_64 : c.in-Some.at < 64 = below _ _ c.in-Some.is c.requires.1 in
     omega (arith, at_64, c.requires.0)
 
-pub returns-in-At : goal.returns-in-At
-returns-in-At c =
-    let at_64 : c.in-At.at < 64 = below _ _ c.in-At.is c.requires.1 in
+pub returns-in-Some : goal.returns-in-Some
+returns-in-Some c =
+    let at_64 : c.in-Some.at < 64 = below _ _ c.in-Some.is c.requires.1 in
     let f = c in
     let start = f in
     let a = start.args in
     let ws = a.words.now in
-    let at = f.in-At.at in
+    let at = f.in-Some.at in
     after-held (get_or ws (152 + at) 0) (get_or ws (88 + at) 0) a.time
     ∙ ap (is_after a.time) (sym (held_at_lem ws at start.requires.0 at_64))
-    ∙ ap (λ (x : Found). taken_at (book_in ws) x a.time) (sym f.in-At.is)
+    ∙ ap (λ (x : Option ℕ). taken_at (book_in ws) x a.time) (sym f.in-Some.is)

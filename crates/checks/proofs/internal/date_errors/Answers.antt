@@ -1,7 +1,7 @@
 -- `checks::internal::date_errors` meets its contract. Assumes nothing.
 use mathlib.Core.Path.{◌≡◌, sym, ap, ◌∙◌}
 use mathlib.Core.Bool.{true, false, not}
-use Prim.Native.Nat.{ℕ, ◌-◌}
+use Prim.Native.Nat.{ℕ}
 use lib.Dec.{eqb}
 use Rattle.layout.specs.Fields.{one_of}
 use Rattle.rules.specs.Opening.{is_date}
@@ -15,7 +15,7 @@ unfolding date_errors named idc_table idc_in one_of
 returns-then-is_date c =
     let a = c.args in
     let h : is_date a.date ≡ true = sym c.is_date.ensures ∙ c.if-is_date.true in
-    (rw h (tested (listed a.e) (listed c.with.result) _ _ _ (ap (λ (n : ℕ). not (eqb n a.execution)) c.number_of.ensures) c.with.ensures.0), c.with.ensures.1)
+    (rw h (tested (listed a.e) (listed c.with.result) _ _ _ (ap (λ (n : ℕ). not (eqb n a.execution)) c.unwrap_or.ensures) c.with.ensures.0), c.with.ensures.1)
 
 pub returns : goal.returns
 unfolding date_errors named idc_table idc_in one_of when

@@ -1,6 +1,6 @@
 -- `checks::internal::field_errors` meets its contract. Assumes nothing.
-use mathlib.Core.Path.{◌≡◌, ap, ◌∙◌}
-use mathlib.Core.Bool.{not}
+use mathlib.Core.Path.{◌≡◌, sym, ap, ◌∙◌}
+use mathlib.Core.Bool.{not, not-not}
 use mathlib.Core.List.{List, [], ◌++◌}
 use Prim.Native.Nat.{ℕ}
 use native.Mathlib.Omega.{arith}
@@ -61,10 +61,10 @@ returns c =
     let h1 : l1 ≡ when (not (same_text (bytes_of MessageType m) (ascii "6G1"))) (ascii "001", 900)
     = tested [] l1 _ _ _ c.other_type.ensures (c.with-first.ensures.0 ∙ ap (λ (l : List Error). l ++ when c.other_type.result (ascii "001", 900)) c.none.ensures.0) in
     let h3 : l3 ≡ l2 ++ when (not (same_text (take 5 (bytes_of Recipient m)) (ascii "01000"))) (ascii "050", 599) = tested l2 l3 _ _ _ c.other_recipient.ensures c.with-third.ensures.0 in
-    let h4 : l4 ≡ l3 ++ when (not (is_number a.f.cro)) (ascii "020", 521) = tested l3 l4 _ _ _ (ap not c.has_number.ensures) c.with-fourth.ensures.0 in
+    let h4 : l4 ≡ l3 ++ when (not (is_number a.f.cro)) (ascii "020", 521) = tested l3 l4 _ _ _ (sym (ap not c.is_none.ensures ∙ not-not _)) c.with-fourth.ensures.0 in
     let h5 = c.date_errors-fifth.ensures.0 in
     let h6 : l6 ≡ l5 ++ when (not (is_time a.f.time)) (ascii "601", 503) = tested l5 l6 _ _ _ (ap not c.is_time.ensures) c.with-sixth.ensures.0 in
-    let h7 : l7 ≡ l6 ++ when (not (is_number a.f.check)) (ascii "010", 908) = tested l6 l7 _ _ _ (ap not c.has_number-2.ensures) c.with-seventh.ensures.0 in
+    let h7 : l7 ≡ l6 ++ when (not (is_number a.f.check)) (ascii "010", 908) = tested l6 l7 _ _ _ (sym (ap not c.is_none-2.ensures ∙ not-not _)) c.with-seventh.ensures.0 in
     let h8 : l8 ≡ l7 ++ when (not (same_text (bytes_of Identifier m) a.t.identifier)) (ascii "6G0", 303) = tested l7 l8 _ _ _ c.other_identifier.ensures c.with.ensures.0 in
     let up_to2 : (codes : List ℕ) → a.admitted ≡ any (eqb (code_in a.f.sender)) codes → l2 ≡ when (not (same_text (bytes_of MessageType m) (ascii "6G1"))) (ascii "001", 900) ++ sender_errors codes a.f.sender
     = λ codes k. added [] l1 l2 _ _ h1 (c.sender_errors-second.ensures.0 codes k) in

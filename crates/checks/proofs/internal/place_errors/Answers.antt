@@ -1,7 +1,6 @@
 -- `checks::internal::place_errors` meets its contract. Assumes nothing.
 use mathlib.Core.Path.{◌≡◌, sym, ◌∙◌}
 use mathlib.Core.Bool.{true, false}
-use Prim.Native.Nat.{◌-◌}
 use native.Mathlib.Omega.{arith}
 use Rattle.layout.specs.Fields.{one_of}
 use Rattle.places.specs.Bids.{all_formed}

@@ -2,7 +2,6 @@
 use mathlib.Core.Path.{◌≡◌, sym, ap, ◌∙◌}
 use mathlib.Core.Bool.{true, false}
 use mathlib.Core.List.{◌++◌}
-use Prim.Native.Nat.{◌+◌, ◌-◌}
 use Rattle.layout.specs.Fields.{one_of}
 use Rattle.addresses.specs.Addresses.{is_address}
 use Rattle.errors.specs.Listed.{listed, named, idc_table, idc_in}

@@ -6,8 +6,5 @@ use lib.ListN.{length, drop}
 use Rattle.digits.specs.Decimal.{all_digits, number_from, number_of}
 use Rattle.digits.proofs.internal.value.Given as goal
 
-abbrev pub invariant-loop-i : goal.invariant-loop-i
-invariant-loop-i l = (l.i ≤ length l.s) × (number_from l.n (drop l.i l.s) ≡ number_of l.s) × (all_digits (drop l.i l.s) ≡ true) × (l.n < 10 ^ l.i)
-
-abbrev pub decreases-loop-i : goal.decreases-loop-i
-decreases-loop-i l = length l.s - l.i
+abbrev pub invariant-loop-b : goal.invariant-loop-b
+invariant-loop-b l = (number_from l.n (drop l.b-index l.s) ≡ number_of l.s) × (all_digits (drop l.b-index l.s) ≡ true) × (l.n < 10 ^ l.b-index)

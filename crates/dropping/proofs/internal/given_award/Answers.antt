@@ -7,5 +7,5 @@ use Rattle.dropping.proofs.internal.given_award.Goals as goal
 pub returns-then-award-minimum : goal.returns-then-award-minimum
 returns-then-award-minimum c = (sym (given_below _ _ c.if-award-minimum.true), omega arith)
 
-pub returns : goal.returns
-returns c = (sym (given-whole _ _ c.if-award-minimum.false), omega arith)
+pub returns-else-award-minimum : goal.returns-else-award-minimum
+returns-else-award-minimum c = (sym (given-whole _ _ c.if-award-minimum.false), omega arith)

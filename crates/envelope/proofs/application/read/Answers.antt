@@ -13,4 +13,4 @@ returns-then-is_6g1 c = rw (sym c.is_6g1.ensures ∙ c.if-is_6g1.true, c.fields_
 
 pub returns-else-is_6g1 : goal.returns-else-is_6g1
 unfolding reading first_holding
-returns-else-is_6g1 c = rw (sym c.is_6g1.ensures ∙ c.if-is_6g1.false, c.no_fields.ensures)
+returns-else-is_6g1 c = rw (sym c.is_6g1.ensures ∙ c.if-is_6g1.false)

@@ -1,7 +1,7 @@
 -- `in_place::internal::outcome_in` meets its contract: refused, or judged where the code stands in the words. Assumes nothing.
-use mathlib.Core.Path.{◌≡◌, sym, ap, ap₂, subst, ◌∙◌}
-use mathlib.Core.Bool.{false≢true}
-use mathlib.Core.Option.{none}
+use borrow.Author.Rules.{rules}
+use Rattle.std.specs.Prelude.{Ok, Err}
+use mathlib.Core.Path.{◌≡◌, refl, ap, ap₂, subst, ◌∙◌}
 use Prim.Native.Nat.{ℕ, ◌≤◌}
 use native.Mathlib.Omega.{arith}
 use lib.ListN.{length, get_or}
@@ -11,9 +11,6 @@ use Rattle.book.specs.Viewed.{viewed, find_from, taken_at}
 use Rattle.book.proofs.Joining.{index_below}
 use Rattle.terms.specs.declared.Terms.{Terms}
 use Rattle.refusals.specs.declared.State.{State}
-use Rattle.refusals.specs.declared.Refusal.{Refusal}
-use Rattle.refusals.specs.Conditions.{refusal_number, is_some}
-use Rattle.refusals.proofs.Conditions.{none_of}
 use Rattle.outcomes.specs.Outcomes.{Checks, LeavesInAny, accepted_of}
 use Rattle.outcomes.proofs.Outcomes.{comes-refused, comes_judged}
 use Rattle.buffer.specs.Words.{tender_words, state_in, terms_in, book_in}
@@ -25,20 +22,15 @@ bounds-words-1 c =
     let long : tender_words ≤ length c.args.words.now = (known c.args.words.now c.requires).long in
     let h = long in omega (arith, h)
 
-pub returns-then-is_refused : goal.returns-then-is_refused
-returns-then-is_refused c =
-    let checks : (let a = c.args in
-    Checks (state_in (get_or a.words.now 1 0)) a.m.now a.date a.time a.room c.receiving_checks-checked.result) = let a = c.args in
-    subst (λ (s : State). Checks s a.m.now a.date a.time a.room c.receiving_checks-checked.result) c.state_of.ensures c.receiving_checks-checked.ensures in
-    let k = c in
-    let a = k.args in
+pub returns-in_err-fields : goal.returns-in_err-fields
+returns-in_err-fields c =
+    let a = c.args in
     let ws = a.words.now in
-    let e = c.refused_with.ensures in
-    let refused = sym c.is_refused.ensures ∙ c.if-is_refused.true in
-    record {
-      comes = comes-refused (state_in (get_or ws 1 0)) (terms_in ws) (book_in ws) a.m.now a.date a.time a.room k.receiving_checks-checked.result checks c.refused_with.result refused e.0 e.1 e.2;
-      accepts = λ q. absurd (false≢true (sym (ap is_some q) ∙ ap (λ (r : Refusal). is_some (refusal_number r)) e.0 ∙ refused));
-    }
+    let f = c.in_err-fields.field-0.0 in
+    let told : c.from_residual.result ≡ Err f = search rules in
+    let checks : Checks (state_in (get_or ws 1 0)) a.m.now a.date a.time a.room (Err f) =
+    subst (λ (s : State). Checks s a.m.now a.date a.time a.room (Err f)) c.state_of.ensures c.in_err-fields.ensures in
+    rw told (record { comes = comes-refused (state_in (get_or ws 1 0)) (terms_in ws) (book_in ws) a.m.now a.date a.time a.room f checks; accepts = tt })
 
 pub takes-taken-requires : goal.takes-taken-requires
 takes-taken-requires c =
@@ -54,32 +46,22 @@ terms_in-terms-requires c =
 
 pub judged-requires : goal.judged-requires
 judged-requires c =
-    let unrefused : refusal_number c.receiving_checks-checked.result.refusal ≡ none = none_of _ (sym c.is_refused.ensures ∙ c.if-is_refused.false) in
-    let l = c in
-    let e = l.receiving_checks-checked.ensures in
-    record { m_value = e.readable-told unrefused; f_value = e.fields_are unrefused; time_value = e.clock_valid unrefused }
+    let e = c.in_ok-fields.ensures in
+    record { m_value = e.readable-told refl; f_value = e.fields_are; time_value = e.clock_valid refl }
 
 pub returns : goal.returns
 returns c =
-    let checks : (let a = c.args in
-    Checks (state_in (get_or a.words.now 1 0)) a.m.now a.date a.time a.room c.receiving_checks-checked.result) = let a = c.args in
-    subst (λ (s : State). Checks s a.m.now a.date a.time a.room c.receiving_checks-checked.result) c.state_of.ensures c.receiving_checks-checked.ensures in
-    let unrefused : refusal_number c.receiving_checks-checked.result.refusal ≡ none = none_of _ (sym c.is_refused.ensures ∙ c.if-is_refused.false) in
-    let t = c in
-    let f = t in
-    let l = f in
-    let k = l in
-    let start = k in
-    let a = start.args in
+    let a = c.args in
     let ws = a.words.now in
-    let q = unrefused in
-    let found = f.find-found.ensures ∙ ap (λ (code : ℕ). find_from (viewed (book_in ws)) code 0) f.code_of.ensures in
-    let taken = t.takes-taken.ensures ∙ ap (taken_at (book_in ws) f.find-found.result) t.number_of-sent.ensures in
-    let r = k.receiving_checks-checked.result in
-    let left = subst (λ (x : Terms). LeavesInAny x f.find-found.result t.takes-taken.result a.m.now r.fields a.date a.time c.judged.result) c.terms_in-terms.ensures c.judged.ensures in
-    let fields = checks.fields_are q in
+    let r = c.in_ok-fields.fields in
+    let checks : Checks (state_in (get_or ws 1 0)) a.m.now a.date a.time a.room (Ok r) =
+    subst (λ (s : State). Checks s a.m.now a.date a.time a.room (Ok r)) c.state_of.ensures c.in_ok-fields.ensures in
+    let found = c.find-found.ensures ∙ ap (λ (code : ℕ). find_from (viewed (book_in ws)) code 0) c.code_of.ensures in
+    let taken = c.takes-taken.ensures ∙ ap (taken_at (book_in ws) c.find-found.result) c.unwrap_or-sent.ensures in
+    let left = subst (λ (x : Terms). LeavesInAny x c.find-found.result c.takes-taken.result a.m.now r a.date a.time c.judged.result) c.terms_in-terms.ensures c.judged.ensures in
+    let fields = checks.fields_are in
     record {
-      comes = comes_judged (state_in (get_or ws 1 0)) (terms_in ws) (book_in ws) a.m.now a.date a.time a.room r checks c.judged.result q f.find-found.result t.takes-taken.result
-          (record { rises = codes_rise ws (known ws start.requires); found_is = found; taken_is = taken }) left;
-      accepts = λ p. left.2 ∙ ap₂ accepted_of (found ∙ ap (λ (x : Fields). find_from (viewed (book_in ws)) (code_in x.sender) 0) fields) fields;
+      comes = comes_judged (state_in (get_or ws 1 0)) (terms_in ws) (book_in ws) a.m.now a.date a.time a.room r checks c.find-found.result c.takes-taken.result
+          (record { rises = codes_rise ws (known ws c.requires); found_is = found; taken_is = taken }) c.judged.result left;
+      accepts = left.1 ∙ ap₂ accepted_of (found ∙ ap (λ (x : Fields). find_from (viewed (book_in ws)) (code_in x.sender) 0) fields) fields;
     }

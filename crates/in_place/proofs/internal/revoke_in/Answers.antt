@@ -1,12 +1,14 @@
 -- `in_place::internal::revoke_in` meets its contract. Assumes nothing.
-use mathlib.Core.Path.{◌≡◌, sym, ap, ◌∙◌}
+use borrow.Author.Rules.{rules}
+use Rattle.std.specs.Prelude.{Err}
+use mathlib.Core.Path.{◌≡◌, ap, ◌∙◌}
+use mathlib.Core.Option.{none, some}
 use Prim.Native.Nat.{◌≤◌}
 use native.Mathlib.Omega.{arith}
 use lib.ListN.{length}
 use Rattle.rules.specs.Calls.{revoking_refused, revoke}
 use Rattle.refusals.specs.declared.State.{State}
-use Rattle.refusals.specs.Conditions.{state_of, refusal_number, ended}
-use Rattle.refusals.proofs.Conditions.{none_of}
+use Rattle.refusals.specs.Conditions.{state_of, number_of, ended}
 use Rattle.buffer.specs.Words.{tender_words, state_in}
 use Rattle.buffer.specs.Words as buffer
 use Rattle.buffer.proofs.Words.{known}
@@ -18,14 +20,14 @@ bounds-words-1 c =
     let long : tender_words ≤ length c.args.words.now = (known c.args.words.now c.requires).long in
     let h = long in omega (arith, h)
 
-pub returns-then-is_refused : goal.returns-then-is_refused
+pub returns-in_err-ended_refusal : goal.returns-in_err-ended_refusal
 unfolding revoke state_in revoking_refused
-returns-then-is_refused c =
-    let number : refusal_number c.ended_refusal-refusal.result ≡ revoking_refused (buffer.tender_in c.args.words.now) = c.ended_refusal-refusal.ensures ∙ ap (λ (s : State). ended (state_of s)) c.state_of.ensures in
-    let r = c in
-    let start = r in
-    let ws = start.args.words.now in
-    changes_refused ws start.requires 3 r.ended_refusal-refusal.result (revoking_refused (buffer.tender_in ws)) number (sym c.is_refused.ensures ∙ c.if-is_refused.true)
+returns-in_err-ended_refusal c =
+    let ws = c.args.words.now in
+    let f = c.in_err-ended_refusal.field-0.0 in
+    let told : c.from_residual.result ≡ Err f = search rules in
+    let number : some (number_of f) ≡ revoking_refused (buffer.tender_in ws) = c.in_err-ended_refusal.ensures ∙ ap (λ (s : State). ended (state_of s)) c.state_of.ensures in
+    rw told (changes_refused ws c.requires 3 _ f number)
 
 pub bounds-words-1-2 : goal.bounds-words-1-2
 bounds-words-1-2 c =
@@ -35,8 +37,6 @@ bounds-words-1-2 c =
 pub returns : goal.returns
 unfolding revoke state_in revoking_refused
 returns c =
-    let number : refusal_number c.ended_refusal-refusal.result ≡ revoking_refused (buffer.tender_in c.args.words.now) = c.ended_refusal-refusal.ensures ∙ ap (λ (s : State). ended (state_of s)) c.state_of.ensures in
-    let r = c in
-    let start = r in
-    let ws = start.args.words.now in
-    changes_state ws start.requires 3 r.ended_refusal-refusal.result (revoking_refused (buffer.tender_in ws)) number (none_of _ (sym c.is_refused.ensures ∙ c.if-is_refused.false)) (omega arith)
+    let ws = c.args.words.now in
+    let number : none ≡ revoking_refused (buffer.tender_in ws) = c.in_ok-ended_refusal.ensures ∙ ap (λ (s : State). ended (state_of s)) c.state_of.ensures in
+    changes_state ws c.requires 3 _ number (omega arith)

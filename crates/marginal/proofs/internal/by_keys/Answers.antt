@@ -1,7 +1,5 @@
 -- `marginal::internal::by_keys` meets its contract. Assumes nothing.
-use borrow.Author.Rules.{rules}
-use native.Mathlib.Nat.{sub-zero}
 use Rattle.marginal.proofs.internal.by_keys.Goals as goal
 
 pub walk-requires : goal.walk-requires
-walk-requires c = record { rates_len = search rules; amounts_bound = search rules; ranked = rw sub-zero c.keys_in-n.ensures.ranked }
+walk-requires c = record { bids_bound = c.requires.bids_bound; ranked = c.keys_in-n.ensures.ranked }

@@ -1,12 +1,6 @@
 -- `numbers::internal::put_first` meets its contract. The loop's invariant: those of the first k numbers that have room are stored. Assumes nothing.
-use mathlib.Core.Path.{◌≡◌}
-use mathlib.Core.List.{◌++◌}
-use Prim.Native.Nat.{◌-◌, ◌≤◌}
-use lib.ListN.{length, take, drop}
+use Rattle.std.proofs.Common.{◌≡◌, ◌++◌, length, take, drop}
 use Rattle.numbers.proofs.internal.put_first.Given as goal
 
 abbrev pub invariant-loop-k : goal.invariant-loop-k
-invariant-loop-k l = (l.k ≤ length l.all) × (length l.numbers ≡ length l.initial.numbers) × (l.numbers ≡ take (length l.initial.numbers) (take l.k l.all) ++ drop l.k l.initial.numbers)
-
-abbrev pub decreases-loop-k : goal.decreases-loop-k
-decreases-loop-k l = length l.all - l.k
+invariant-loop-k l = (length l.numbers ≡ length l.initial.numbers) × (l.numbers ≡ take (length l.initial.numbers) (take l.k l.all) ++ drop l.k l.initial.numbers)

@@ -12,6 +12,6 @@ pub returns : goal.returns
 unfolding digit_numbers
 returns c =
     let w = then (omega arith) c.put-flag.ensures c.put.ensures in
-    let n = c.number_of.ensures in
-    let f = flag_is c.has_number.result ∙ ap flag c.has_number.ensures in
+    let n = c.unwrap_or.ensures in
+    let f = c.from.ensures ∙ flag_is c.is_some.result ∙ ap flag c.is_some.ensures in
     (said (λ i. n i ∷ f i ∷ []) w, w.past)

@@ -1,5 +1,5 @@
 -- `numbers::internal::put_place` meets its contract. Assumes nothing.
-use mathlib.Core.Path.{ap}
+use mathlib.Core.Path.{ap₂, ◌∙◌}
 use mathlib.Core.List.{[], ◌∷◌}
 use Prim.Native.Nat.{ℕ}
 use Rattle.output.proofs.Output.{said}
@@ -12,4 +12,4 @@ unfolding place_numbers
 returns c =
     let p = c.args.p in
     let w = c.put_three.ensures in
-    (said (ap (λ (n : ℕ). p.rate.0 ∷ p.amount.0 ∷ n ∷ []) (flag_is p.formed)) w, w.past)
+    (said (ap₂ (λ (r n : ℕ). r ∷ p.amount.0 ∷ n ∷ []) c.from.ensures (c.from-2.ensures ∙ flag_is p.formed)) w, w.past)

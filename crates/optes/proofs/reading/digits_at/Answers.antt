@@ -3,7 +3,7 @@ use mathlib.Core.Path.{◌≡◌, sym, ap, ◌∙◌}
 use mathlib.Core.Bool.{true}
 use Prim.Native.Nat.{ℕ, ◌≤◌}
 use native.Mathlib.Omega.{arith}
-use Rattle.digits.specs.declared.Digits.{Digits}
+use Rattle.digits.specs.Decimal.{Digits}
 use Rattle.digits.specs.Decimal.{digits_of}
 use Rattle.layout.specs.Fields.{readable, content}
 use Rattle.envelope.specs.Application.{layout6_g1}

@@ -4,4 +4,4 @@ use Rattle.digits.specs.Decimal.{number_in}
 use Rattle.optes.proofs.reading.optes_6g1_number.Goals as goal
 
 pub returns : goal.returns
-returns c = c.number_of.ensures ∙ ap number_in c.digits_at.ensures
+returns c = c.unwrap_or.ensures ∙ ap number_in c.digits_at.ensures

@@ -1,5 +1,5 @@
 -- `outcomes::internal::judged` meets its contract. Assumes nothing.
-use mathlib.Core.Path.{refl, ap₂, ◌∙◌}
+use mathlib.Core.Path.{ap₂, ◌∙◌}
 use mathlib.Core.Bool.{cond}
 use Prim.Native.Nat.{ℕ}
 use lib.Dec.{eqb}
@@ -12,9 +12,8 @@ pub returns : goal.returns
 returns c =
     let e = c in
     let f = e.args.f in
-    let at = c.index_of.ensures in
-    let time = c.number_of.ensures in (
-      refl,
+    let at = c.unwrap_or.ensures in
+    let time = c.unwrap_or-2.ensures in (
       e.returned_errors-errors.ensures.1,
       (λ i. record { at = at i; time = time i; rates = f.places.rates; amounts = f.places.amounts }),
       λ b s state space.

@@ -12,7 +12,7 @@ use Rattle.places.proofs.Reading.{column_more, column_all}
 use Rattle.places.proofs.internal.read_places.Goals as goal
 
 pub loop-k-init : goal.loop-k-init
-loop-k-init c = (omega arith, refl, refl, refl)
+loop-k-init c = (refl, refl, refl)
 
 pub loop-k-preserved : goal.loop-k-preserved
 loop-k-preserved c =
@@ -21,10 +21,9 @@ loop-k-preserved c =
     let p = c.read_sooner-p.result in
     let n : 24 * l.k + 24 - 24 * l.k ≡ 24 = omega arith in
     let e : p ≡ place_of (take 24 (drop (24 * l.k) s)) = c.read_sooner-p.ensures ∙ ap (λ (j : ℕ). place_of (take j (drop (24 * l.k) s))) n in (
-      omega arith,
-      column_more (λ (q : Place). q.formed) 10 s (replicate 10 false) refl l.formed l.k p (omega arith) e l.invariant.1,
-      column_more (λ (q : Place). q.rate) 10 s (replicate 10 (record { 0 = 0 })) refl l.rates l.k p (omega arith) e l.invariant.2,
-      column_more (λ (q : Place). q.amount) 10 s (replicate 10 (record { 0 = 0 })) refl l.amounts l.k p (omega arith) e l.invariant.3,
+      column_more (λ (q : Place). q.formed) 10 s (replicate 10 false) refl l.formed l.k p (omega arith) e l.invariant.0,
+      column_more (λ (q : Place). q.rate) 10 s (replicate 10 (record { 0 = 0 })) refl l.rates l.k p (omega arith) e l.invariant.1,
+      column_more (λ (q : Place). q.amount) 10 s (replicate 10 (record { 0 = 0 })) refl l.amounts l.k p (omega arith) e l.invariant.2,
     )
 
 pub returns : goal.returns
@@ -33,7 +32,7 @@ returns c =
     let s = c.args.s.now in
     let l = c.loop-k in
     let k : l.k ≡ 10 = omega arith in
-    let f : l.formed ≡ map (λ (p : Place). p.formed) (places_in 10 s) = rw k at l.invariant.1 ∙ column_all (λ (q : Place). q.formed) 10 s (replicate 10 false) refl in
-    let r : l.rates ≡ map (λ (p : Place). p.rate) (places_in 10 s) = rw k at l.invariant.2 ∙ column_all (λ (q : Place). q.rate) 10 s (replicate 10 (record { 0 = 0 })) refl in
-    let a : l.amounts ≡ map (λ (p : Place). p.amount) (places_in 10 s) = rw k at l.invariant.3 ∙ column_all (λ (q : Place). q.amount) 10 s (replicate 10 (record { 0 = 0 })) refl in
+    let f : l.formed ≡ map (λ (p : Place). p.formed) (places_in 10 s) = rw k at l.invariant.0 ∙ column_all (λ (q : Place). q.formed) 10 s (replicate 10 false) refl in
+    let r : l.rates ≡ map (λ (p : Place). p.rate) (places_in 10 s) = rw k at l.invariant.1 ∙ column_all (λ (q : Place). q.rate) 10 s (replicate 10 (record { 0 = 0 })) refl in
+    let a : l.amounts ≡ map (λ (p : Place). p.amount) (places_in 10 s) = rw k at l.invariant.2 ∙ column_all (λ (q : Place). q.amount) 10 s (replicate 10 (record { 0 = 0 })) refl in
     rw (f, r, a)

@@ -29,8 +29,8 @@ returns c =
           let t = terms.viewed a.t (admission_of b) in
           let x = reception_of a.m.now a.day a.second space in
           judged t b x (code_in a.f.sender) (number_in a.f.time) (bids_from a.f.places.rates a.f.places.amounts 0 10) c.with.result (omega (arith, sixteen_with)) a.found a.taken s own (omega (arith, sixteen))
-          (e.errors_of-e.ensures.0 (admission_of b) space (e.is_found.ensures ∙ ap is_at s.found_is ∙ sym (admitted_is (viewed b) (code_in a.f.sender) 0)))
+          (e.errors_of-e.ensures.0 (admission_of b) space (e.is_some.ensures ∙ ap is_at s.found_is ∙ sym (admitted_is (viewed b) (code_in a.f.sender) 0)))
           (λ empty. submission_is t (viewed b) x start.requires.m_value start.requires.second_value empty ∙ taken_from a.m.now a.f (code_in a.f.sender) (number_in a.f.time) start.requires.f_value refl refl)
-          c.with.ensures.0,
+          (rw c.is_empty.ensures at c.with.ensures.0),
       omega (arith, e.errors_of-e.ensures.1, c.with.ensures.1),
     )

@@ -9,8 +9,8 @@ use Rattle.errors.specs.Listed.{named}
 use Rattle.replies.proofs.Texts.{shown-few, shown_many}
 use Rattle.replies.proofs.internal.shown.Goals as goal
 
-pub returns-then-n-le5 : goal.returns-then-n-le5
-returns-then-n-le5 c =
+pub returns-then-e-le5 : goal.returns-then-e-le5
+returns-then-e-le5 c =
     let e = c.args.e in
     let k : length e.codes ≡ 16 = search rules in
     let l : length (map named (take e.n e.codes)) ≡ e.n = length-map (take e.n e.codes) named ∙ length-take-le e.n e.codes (omega arith) in

@@ -7,7 +7,7 @@ use Rattle.session_fields.proofs.internal.code_at.Goals as goal
 
 pub overflow_cast-result : goal.overflow_cast-result
 overflow_cast-result c =
-    let e = c.number_of.ensures ∙ ap number_in c.number.ensures in
+    let e = c.unwrap_or.ensures ∙ ap number_in c.number.ensures in
     let start = c in
     let b = code_below start.args.s.now start.args.at start.requires.at_in_bounds start.requires.s_value in
     omega (arith, e, b)
@@ -15,4 +15,4 @@ overflow_cast-result c =
 pub returns : goal.returns
 returns c =
     let start = c in
-    c.number_of.ensures ∙ ap number_in c.number.ensures ∙ code-part start.args.s.now start.args.at
+    c.unwrap_or.ensures ∙ ap number_in c.number.ensures ∙ code-part start.args.s.now start.args.at

@@ -1,29 +1,24 @@
 -- `session_fields::internal::codes_in` meets its contract. The loop's invariant: the first i codes are stored. Assumes nothing.
 use mathlib.Core.Path.{◌≡◌, refl, subst}
-use Prim.Native.Nat.{ℕ, ◌-◌}
+use Prim.Native.Nat.{ℕ}
 use native.Mathlib.Omega.{arith}
-use lib.ListN.{length, take, length-set}
+use lib.ListN.{take, length-set}
 use Rattle.session_fields.specs.Codes.{codes_from}
 use Rattle.session_fields.proofs.Codes.{codes_more}
 use Rattle.session_fields.proofs.internal.codes_in.Goals as goal
 
 pub loop-i-init : goal.loop-i-init
 unfolding codes_from
-loop-i-init c =
-    let p = c.requires in
-    (omega arith, p.n_bound.0, p.n_bound.1, refl, p.s_value, refl)
-
-pub code_at-requires : goal.code_at-requires
-code_at-requires c = record { at_in_bounds = omega arith; s_value = c.loop-i.invariant.4 }
+loop-i-init c = (refl, refl)
 
 pub loop-i-preserved : goal.loop-i-preserved
 loop-i-preserved c =
     let l = c.loop-i in
-    (omega arith, l.invariant.1, l.invariant.2, simp length-set l.invariant.3, l.invariant.4, codes_more _ _ _ _ (omega arith) l.invariant.5 c.code_at.ensures)
+    (simp length-set l.invariant.0, codes_more _ _ _ _ (omega arith) l.invariant.1 c.code_at.ensures)
 
 pub returns : goal.returns
 returns c =
     let l = c.loop-i in
     let n = c.args.n in
     let e : l.i ≡ n = omega arith in
-    (subst (λ (k : ℕ). take k l.codes ≡ codes_from k c.args.s.now) e l.invariant.5, l.invariant.3)
+    (subst (λ (k : ℕ). take k l.codes ≡ codes_from k c.args.s.now) e l.invariant.1, l.invariant.0)

@@ -9,4 +9,4 @@ pub returns : goal.returns
 unfolding time_of
 returns c =
     let s = c.args.s.now in
-    c.number_of.ensures ∙ ap number_in (c.last_of_eight.ensures ∙ ap digits_of (time-bytes s))
+    c.unwrap_or.ensures ∙ ap number_in (c.last_of_eight.ensures ∙ ap digits_of (time-bytes s))

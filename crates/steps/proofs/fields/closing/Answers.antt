@@ -25,8 +25,8 @@ returns-then-not-standing c =
     let a = start.args in
     takes_as (its_length 14 (closed a.s.now) (viewed a.standing codes a.words.now) a.s.now c.if-s-ne14.false) (takes_skipped a.standing codes a.words.now a.space.now (closed a.s.now) start.requires.ready.given (not-true _ c.if-not-standing.true))
 
-pub close_in-refusal-requires : goal.close_in-refusal-requires
-close_in-refusal-requires c = c.requires.ready.given.tender (not-false _ c.if-not-standing.false)
+pub close_in-answer-requires : goal.close_in-answer-requires
+close_in-answer-requires c = c.requires.ready.given.tender (not-false _ c.if-not-standing.false)
 
 pub returns : goal.returns
 unfolding closing_step
@@ -35,7 +35,7 @@ returns c =
     let a = start.args in
     let s = a.s.now in
     let ws = a.words.now in
-    let done = c.close_in-refusal in
+    let done = c.close_in-answer in
     let change = subst (λ (x : Option ℕ × Tender). ChangesIn ws x 1 done.result done.new.words) (ap₂ (close (tender_in ws)) c.date_of.ensures c.time_of.ensures) done.ensures in
     takes_as (its_length 14 (closed s) (viewed a.standing codes ws) s c.if-s-ne14.false)
     (takes_called a.standing codes ws a.space.now (closed s) _ _ _ start.requires.ready (not-false _ c.if-not-standing.false) (called_by (λ (t : Tender). close t (date_of s) (time_of s)) ws _ a.space.now _ _ done.result 1 change c.put_refusal-length.ensures))

@@ -20,8 +20,8 @@ returns-then-not-standing c =
     let a = start.args in
     takes_as (its_length 0 revoked (viewed a.standing codes a.words.now) a.s.now c.if-s-ne0.false) (takes_skipped a.standing codes a.words.now a.space.now revoked start.requires.ready.given (not-true _ c.if-not-standing.true))
 
-pub revoke_in-refusal-requires : goal.revoke_in-refusal-requires
-revoke_in-refusal-requires c = c.requires.ready.given.tender (not-false _ c.if-not-standing.false)
+pub revoke_in-answer-requires : goal.revoke_in-answer-requires
+revoke_in-answer-requires c = c.requires.ready.given.tender (not-false _ c.if-not-standing.false)
 
 pub returns : goal.returns
 unfolding revocation_step
@@ -29,6 +29,6 @@ returns c =
     λ codes. let start = c in
     let a = start.args in
     let ws = a.words.now in
-    let done = c.revoke_in-refusal in
+    let done = c.revoke_in-answer in
     takes_as (its_length 0 revoked (viewed a.standing codes ws) a.s.now c.if-s-ne0.false)
     (takes_called a.standing codes ws a.space.now revoked _ _ _ start.requires.ready (not-false _ c.if-not-standing.false) (called_by revoke ws _ a.space.now _ _ done.result 3 done.ensures c.put_refusal-length.ensures))

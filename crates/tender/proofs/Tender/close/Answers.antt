@@ -7,11 +7,10 @@ use Rattle.rules.specs.Calls as rules
 use Rattle.rules.specs.Calls.{close}
 use Rattle.tender.specs.Viewed.{viewed}
 use Rattle.tender.specs.Calls.{Changes}
-use borrow.Author.Rules.{rules}
 use Rattle.tender.proofs.Tender.close.Goals as goal
 
 pub returns : goal.returns
 unfolding close
 returns c =
     let a = c.args in
-    subst (λ (l : Option ℕ). Changes a.self (l, unless_refused l (viewed a.self) (rules.in_state rules.Closed (viewed a.self))) c.in_state_unless.result) (c.close_refusal-refusal.ensures (viewed a.self).terms.admission (viewed a.self).book) c.in_state_unless.ensures.1
+    subst (λ (l : Option ℕ). Changes a.self (l, unless_refused l (viewed a.self) (rules.in_state rules.Closed (viewed a.self))) c.in_state_unless.result) (c.close_refusal-answer.ensures (viewed a.self).terms.admission (viewed a.self).book) c.in_state_unless.ensures.1

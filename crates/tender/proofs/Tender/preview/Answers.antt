@@ -4,7 +4,5 @@ use Rattle.tender.proofs.Tender.preview.Goals as goal
 
 pub returns : goal.returns
 returns c =
-    let a = c.allot_book-previewed in
-    let first = c in
-    let start = first in
-    previews start.args.self first.ended_refusal.result a.result a.ensures first.ended_refusal.ensures start.requires
+    let a = c.allot_book-answer in
+    previews c.args.self c.requires c.ended_refusal.result a.result a.ensures c.ended_refusal.ensures

@@ -7,11 +7,10 @@ use Rattle.rules.specs.Calls as rules
 use Rattle.rules.specs.Calls.{revoking_refused, revoke}
 use Rattle.tender.specs.Viewed.{viewed}
 use Rattle.tender.specs.Calls.{Changes}
-use borrow.Author.Rules.{rules}
 use Rattle.tender.proofs.Tender.revoke.Goals as goal
 
 pub returns : goal.returns
 unfolding revoke revoking_refused
 returns c =
     let a = c.args in
-    subst (λ (l : Option ℕ). Changes a.self (l, unless_refused l (viewed a.self) (rules.in_state rules.Revoked (viewed a.self))) c.in_state_unless.result) c.ended_refusal-refusal.ensures c.in_state_unless.ensures.1
+    subst (λ (l : Option ℕ). Changes a.self (l, unless_refused l (viewed a.self) (rules.in_state rules.Revoked (viewed a.self))) c.in_state_unless.result) c.ended_refusal-answer.ensures c.in_state_unless.ensures.1

@@ -7,19 +7,17 @@ use Rattle.words.proofs.Text.{byte_at, bytes_after, length-bytes}
 use Rattle.words.proofs.internal.put_word.Goals as goal
 
 pub loop-i-init : goal.loop-i-init
-loop-i-init c = (omega arith, refl, paste-zero c.args.space.now c.args.at (low_bytes 8 c.args.t), refl)
+loop-i-init c = (paste-zero c.args.space.now c.args.at (low_bytes 8 c.args.t), refl)
 
 pub loop-i-preserved : goal.loop-i-preserved
 loop-i-preserved c =
     let a = c.args in
     let l = c.loop-i in
     let w = low_bytes 8 a.t in
-    let b = byte_at w l.i 8 l.left (omega arith) l.invariant.3 in
+    let b = byte_at w l.i 8 l.left (omega arith) l.invariant.1 in
     let n = length-bytes 8 a.t in (
-      omega arith,
-      simp length-set (omega arith),
-      rw (l.invariant.2, add-one, ← b) (paste-suc a.space.now a.at w l.i 0 (omega arith) (omega arith)),
-      bytes_after w l.i 8 l.left (omega arith) l.invariant.3,
+      rw (l.invariant.0, add-one, ← b) (paste-suc a.space.now a.at w l.i 0 (omega arith) (omega arith)),
+      bytes_after w l.i 8 l.left (omega arith) l.invariant.1,
     )
 
 pub returns : goal.returns
@@ -30,4 +28,4 @@ returns c =
     let w = low_bytes 8 a.t in
     let k : l.i ≡ 8 = omega arith in
     let n = length-bytes 8 a.t in
-    (record { bytes = l.invariant.2 ∙ rw (k, n, take_all 8 w (omega arith)); past = omega arith }, omega arith)
+    (record { bytes = l.invariant.0 ∙ rw (k, n, take_all 8 w (omega arith)); past = omega arith }, omega arith)

@@ -5,7 +5,4 @@ use Rattle.words.specs.Words.{low_bytes}
 use Rattle.words.proofs.internal.put_word.Given as goal
 
 abbrev pub invariant-loop-i : goal.invariant-loop-i
-invariant-loop-i l = (l.i ≤ 8) × (length l.space ≡ length l.initial.space) × (l.space ≡ paste l.initial.space l.at (low_bytes 8 l.t) l.i) × (drop l.i (low_bytes 8 l.t) ≡ low_bytes (8 - l.i) l.left)
-
-abbrev pub decreases-loop-i : goal.decreases-loop-i
-decreases-loop-i l = 8 - l.i
+invariant-loop-i l = (l.space ≡ paste l.initial.space l.at (low_bytes 8 l.t) l.i) × (drop l.i (low_bytes 8 l.t) ≡ low_bytes (8 - l.i) l.left)

@@ -1,9 +1,0 @@
--- `allotment_cases::line::print_awards` is safe and ends. The loop's measure: the awards left. Assumes nothing.
-use Rattle.std.proofs.Common.{◌-◌, ◌≤◌, length}
-use Rattle.allotment_cases.proofs.line.print_awards.Given as goal
-
-abbrev pub invariant-loop-i : goal.invariant-loop-i
-invariant-loop-i g l = l.i ≤ length l.awards
-
-abbrev pub decreases-loop-i : goal.decreases-loop-i
-decreases-loop-i g l = length l.awards - l.i

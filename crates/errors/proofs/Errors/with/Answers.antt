@@ -1,0 +1,27 @@
+-- `errors::Errors::with` meets its contract. Assumes nothing.
+use borrow.Author.Rules.{rules}
+use mathlib.Core.Path.{◌≡◌, refl, sym, ap}
+use mathlib.Core.List.{List, [], ◌∷◌, ◌++◌, map, append-nil}
+use Prim.Native.Nat.{ℕ, ◌<◌}
+use native.Mathlib.Numerals.{add-one}
+use lib.ListN.{length, take}
+use lib.Seq.{take-suc-set}
+use Rattle.rules.specs.Receiving.{Error, when}
+use Rattle.errors.specs.Listed.{named}
+use Rattle.errors.proofs.Errors.with.Goals as goal
+
+-- one code more is one error more
+one_more : (codes : List ℕ) (code : ℕ) → map named (codes ++ (code ∷ [])) ≡ map named codes ++ (named code ∷ [])
+one_more [] code = refl
+one_more (c ∷ codes) code = ap (λ (es : List Error). named c ∷ es) (one_more codes code)
+
+pub returns-then-not-bad : goal.returns-then-not-bad
+unfolding when
+returns-then-not-bad c = (rw c.if-not-bad.true (sym (append-nil _)), search rules)
+
+pub returns : goal.returns
+unfolding when
+returns c =
+    let e = c.args.self in
+    let h : e.n < length e.codes = search rules in
+    (rw (c.if-not-bad.false, add-one, take-suc-set e.codes e.n c.args.code h) (one_more (take e.n e.codes) c.args.code), search rules)

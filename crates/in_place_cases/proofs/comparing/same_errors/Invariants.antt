@@ -1,9 +1,0 @@
--- `in_place_cases::comparing::same_errors` is safe and ends. The loop's invariant: the index is at most 16. Assumes nothing.
-use Rattle.std.proofs.Common.{◌-◌, ◌≤◌}
-use Rattle.in_place_cases.proofs.comparing.same_errors.Given as goal
-
-abbrev pub invariant-loop-i : goal.invariant-loop-i
-invariant-loop-i l = l.i ≤ 16
-
-abbrev pub decreases-loop-i : goal.decreases-loop-i
-decreases-loop-i l = 16 - l.i

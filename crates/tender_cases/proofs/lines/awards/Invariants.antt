@@ -1,9 +1,0 @@
--- `tender_cases::lines::awards` is safe and ends. The loop's invariant: the index is at most 640. Assumes nothing.
-use Rattle.std.proofs.Common.{◌-◌, ◌≤◌}
-use Rattle.tender_cases.proofs.lines.awards.Given as goal
-
-abbrev pub invariant-loop-i : goal.invariant-loop-i
-invariant-loop-i g l = l.i ≤ 640
-
-abbrev pub decreases-loop-i : goal.decreases-loop-i
-decreases-loop-i g l = 640 - l.i
