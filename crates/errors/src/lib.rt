@@ -40,15 +40,16 @@ impl Errors {
     }
 
     // One error more, where bad says so; it asks for a free place.
-    pub fn with(mut self, bad: bool, code: u16) -> Errors
+    pub fn with(self, bad: bool, code: u16) -> Errors
         requires { self.n < 16 }
         ensures { (listed result ≡ listed self ++ when bad (named code)) × (result.n ≤ self.n + 1) }
     {
-        if !bad {
-            return self;
+        if bad {
+            let mut next = self;
+            next.codes[self.n] = code;
+            next.n += 1;
+            return next;
         }
-        self.codes[self.n] = code;
-        self.n += 1;
         self
     }
 }

@@ -15,13 +15,13 @@ one_more : (codes : List ℕ) (code : ℕ) → map named (codes ++ (code ∷ [])
 one_more [] code = refl
 one_more (c ∷ codes) code = ap (λ (es : List Error). named c ∷ es) (one_more codes code)
 
-pub returns-then-not-bad : goal.returns-then-not-bad
+pub returns-then-bad : goal.returns-then-bad
 unfolding when
-returns-then-not-bad c = (rw c.if-not-bad.true (sym (append-nil _)), search rules)
+returns-then-bad c =
+    let e = c.args.self in
+    let h : e.n < length e.codes = search rules in
+    (rw (c.if-bad.true, add-one, take-suc-set e.codes e.n c.args.code h) (one_more (take e.n e.codes) c.args.code), search rules)
 
 pub returns : goal.returns
 unfolding when
-returns c =
-    let e = c.args.self in
-    let h : e.n < length e.codes = search rules in
-    (rw (c.if-not-bad.false, add-one, take-suc-set e.codes e.n c.args.code h) (one_more (take e.n e.codes) c.args.code), search rules)
+returns c = (rw c.if-bad.false (sym (append-nil _)), search rules)
