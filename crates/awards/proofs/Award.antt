@@ -56,7 +56,7 @@ served_le o r b e x = go (is_in o x) (better_rate o.side x.rate r) (better_rate 
     go false s t = omega arith
 
 module _ (o : Offer) (bs : List Bid) (r : ℕ) where
-  -- the totals at better rates and at this one are within the whole
+  -- the totals at better rates and at this one
   abbrev better : ℕ
   better = total_better o bs r
 

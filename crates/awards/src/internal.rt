@@ -8,6 +8,7 @@ ghost use Rattle.bids.specs.Columns as columns;
 ghost use Rattle.offer.specs.Viewed.{viewed, most_bids};
 ghost use Rattle.awards.specs.LastRate.{shared_out, served, cents_at, served_in, cents_in, LastRate, ServesAll};
 
+use bids::internal::bid;
 use bids::{Bid, BidColumns};
 use division::internal::divide;
 use offer::internal::{totals, where_holds};
@@ -71,7 +72,7 @@ fn serve_all(o: Offer, bids: BidColumns, last: Rate, t: Totals, awards: &mut [u6
 {
     let mut shared = 0;
     for (i, award) in awards.iter_mut().enumerate() {
-        let bid = bids.bid(i);
+        let bid = bid(bids, i);
         let given = serve(o, bid, last, t).0;
         *award = given;
         shared += where_holds(stands_equal(o, bid, last), given);
@@ -89,7 +90,7 @@ fn add_cents(o: Offer, bids: BidColumns, last: Rate, cents: u64, awards: &mut [u
 {
     let mut left = cents;
     for (i, award) in awards.iter_mut().enumerate() {
-        let c = cent(o, bids.bid(i), last, left);
+        let c = cent(o, bid(bids, i), last, left);
         *award += c;
         left -= c;
     }

@@ -19,6 +19,7 @@ use calendar::moment_later;
 use envelope::application::{Field, Fields};
 use envelope::internal::bytes_in;
 use errors::Errors;
+use errors::internal::with;
 use places::{Amount, Places, Rate};
 use terms::{Terms, is_date, is_time};
 use texts::same;
@@ -54,9 +55,9 @@ pub fn sender_errors(e: Errors, sender: Address, admitted: bool) -> Errors
     ensures { ((codes : List ℕ) → admitted ≡ any (eqb (code_in sender)) codes → listed result ≡ listed e ++ sender_errors codes sender) × (result.n ≤ e.n + 1) }
 {
     if has_address(sender) {
-        return e.with(!admitted, 300);
+        return with(e, !admitted, 300);
     }
-    e.with(true, 309)
+    with(e, true, 309)
 }
 
 // The error of a reference date.
@@ -65,9 +66,9 @@ pub fn date_errors(e: Errors, execution: u64, date: Option<u64>) -> Errors
     ensures { (listed result ≡ listed e ++ date_errors execution date) × (result.n ≤ e.n + 1) }
 {
     if is_date(date) {
-        return e.with(date.unwrap_or(0) != execution, 522);
+        return with(e, date.unwrap_or(0) != execution, 522);
     }
-    e.with(true, 502)
+    with(e, true, 502)
 }
 
 // The errors of ten well-formed places, 902 to 907.
@@ -75,12 +76,16 @@ pub fn bid_errors(e: Errors, t: Terms, rates: [Rate; 10], amounts: [Amount; 10])
     requires { e.n ≤ 10 }
     ensures { (listed result ≡ listed e ++ bid_errors (viewed t nobody) (bids_from rates amounts 0 10)) × (result.n ≤ e.n + 6) }
 {
-    let gap = e.with(has_gap(rates, amounts), 902);
-    let many = gap.with(t.most < count(rates, amounts), 903);
-    let fine = many.with(any_fine(rates, amounts), 904);
-    let small = fine.with(any_small(rates, amounts, t.minimum), 905);
-    let uneven = small.with(any_uneven(rates, amounts, t.minimum, t.increment), 906);
-    uneven.with(is_over(rates, amounts, t.maximum), 907)
+    let gap = with(e, has_gap(rates, amounts), 902);
+    let many = with(gap, t.most < count(rates, amounts), 903);
+    let fine = with(many, any_fine(rates, amounts), 904);
+    let small = with(fine, any_small(rates, amounts, t.minimum), 905);
+    let uneven = with(
+        small,
+        any_uneven(rates, amounts, t.minimum, t.increment),
+        906,
+    );
+    with(uneven, is_over(rates, amounts, t.maximum), 907)
 }
 
 // Whether each of ten places is well formed.
@@ -105,7 +110,7 @@ pub fn place_errors(e: Errors, t: Terms, p: Places) -> Errors
         let amounts = p.amounts;
         return bid_errors(e, t, rates, amounts);
     }
-    e.with(true, 901)
+    with(e, true, 901)
 }
 
 // The errors of the fields before the places, 900 to 303.
@@ -119,14 +124,14 @@ fn field_errors(m: &[u8], t: Terms, f: Fields, admitted: bool) -> Errors
     let time = f.time;
     let check = f.check;
     let identifier = t.identifier;
-    let first = Errors::none().with(other_type(m), 900);
+    let first = with(Errors::none(), other_type(m), 900);
     let second = sender_errors(first, sender, admitted);
-    let third = second.with(other_recipient(m), 599);
-    let fourth = third.with(cro.is_none(), 521);
+    let third = with(second, other_recipient(m), 599);
+    let fourth = with(third, cro.is_none(), 521);
     let fifth = date_errors(fourth, t.execution, date);
-    let sixth = fifth.with(!is_time(time), 503);
-    let seventh = sixth.with(check.is_none(), 908);
-    seventh.with(other_identifier(m, identifier), 303)
+    let sixth = with(fifth, !is_time(time), 503);
+    let seventh = with(sixth, check.is_none(), 908);
+    with(seventh, other_identifier(m, identifier), 303)
 }
 
 // The errors of a readable message with the fields f, received on a day and at a second.
@@ -138,5 +143,9 @@ pub fn errors_of(m: &[u8], t: Terms, f: Fields, admitted: bool, day: u64, second
     let p = f.places;
     let head = field_errors(m, t, f, admitted);
     let places = place_errors(head, t, p);
-    places.with(moment_later(day, second, t.execution, t.cutoff), 301)
+    with(
+        places,
+        moment_later(day, second, t.execution, t.cutoff),
+        301,
+    )
 }

@@ -8,6 +8,7 @@ ghost use Rattle.offer.specs.Viewed.{viewed, most_bids};
 ghost use Rattle.cuts.specs.Walked.{walked};
 
 use crate::is_capped;
+use bids::internal::{bid, part};
 use bids::{Bid, BidColumns};
 use offer::internal::where_holds;
 use offer::{Offer, is_in};
@@ -39,10 +40,10 @@ fn left_of_cap(cap: u64, bids: BidColumns, i: usize) -> u64
     requires amounts_bound { total (bids_in bids) ≤ most_bids }
     ensures { result ≡ cap - walked (get_or (bids_in bids.entry) i no_bid).rate i 0 (bids_in bids.entry) }
 {
-    let rate = bids.bid(i).rate.0;
+    let rate = bid(bids, i).rate.0;
     let mut before = 0;
     for j in 0..bids.len() {
-        let b = bids.bid(j);
+        let b = bid(bids, j);
         let other = b.rate.0;
         before += where_holds((rate < other) | ((other == rate) & (j < i)), b.amount.0);
     }
@@ -55,7 +56,7 @@ fn cut_place(o: Offer, cap: u64, bids: BidColumns, i: usize) -> Bid
     requires amounts_bound { total (bids_in bids) ≤ most_bids }
     ensures { columns.viewed result ≡ get_or (cut_bids (viewed o) cap (bids_in bids.entry)) i no_bid }
 {
-    let b = bids.bid(i);
+    let b = bid(bids, i);
     if is_capped(o, cap) & is_in(o, b) {
         return cut_above(left_of_cap(cap, bids, i), b);
     }
@@ -79,7 +80,7 @@ pub fn cut_book(
     for i in 0..bids.len() {
         let k = i / 10;
         let at = 10 * k;
-        let b = cut_place(o, limits[k], bids.part(at, at + 10), i - at);
+        let b = cut_place(o, limits[k], part(bids, at, at + 10), i - at);
         cut_rates[i] = b.rate.0;
         cut_amounts[i] = b.amount.0;
     }

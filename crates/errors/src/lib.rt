@@ -1,6 +1,8 @@
 // The errors of a message, collected in the order of document 01 as their codes.
 #![tactic(auto)]
 
+pub mod internal;
+
 ghost use Rattle.std.specs.Prelude.{◌≡◌};
 
 // The first n of codes are the errors.
@@ -11,9 +13,8 @@ pub struct Errors {
 }
 
 impl Errors {
-    ghost use Rattle.std.specs.Prelude.{◌==◌, [], ◌++◌, ◌+◌, ◌<◌, ◌≤◌, length, take};
-    ghost use Rattle.rules.specs.Receiving.{when};
-    ghost use Rattle.errors.specs.Listed.{named, listed};
+    ghost use Rattle.std.specs.Prelude.{◌==◌, [], ◌≤◌, length, take};
+    ghost use Rattle.errors.specs.Listed.{listed};
 
     // No errors.
     pub fn none() -> Errors
@@ -37,19 +38,5 @@ impl Errors {
         ensures len { self.now.n ≤ 16 → length result.now ≡ self.now.n }
     {
         &self.codes[..self.n.min(16)]
-    }
-
-    // One error more, where bad says so; it asks for a free place.
-    pub fn with(self, bad: bool, code: u16) -> Errors
-        requires { self.n < 16 }
-        ensures { (listed result ≡ listed self ++ when bad (named code)) × (result.n ≤ self.n + 1) }
-    {
-        if bad {
-            let mut next = self;
-            next.codes[self.n] = code;
-            next.n += 1;
-            return next;
-        }
-        self
     }
 }

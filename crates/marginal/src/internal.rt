@@ -8,6 +8,7 @@ ghost use Rattle.marginal.specs.Ranks.{rate_in, Ranked, RankedFirst};
 
 use announcement::Side;
 use bids::BidColumns;
+use bids::internal::bid;
 use offer::{Offer, is_in, rank};
 use places::Rate;
 use sort::sort;
@@ -29,7 +30,7 @@ pub fn keys_in(o: Offer, bids: BidColumns, keys: &mut [u64]) -> usize
     let side = o.side;
     let mut n = 0;
     for i in 0..bids.len() {
-        let b = bids.bid(i);
+        let b = bid(bids, i);
         keys[n] = key(side, b.rate, i);
         n += usize::from(is_in(o, b));
     }
@@ -50,7 +51,7 @@ pub fn first_reaching(o: Offer, bids: BidColumns, keys: &[u64]) -> Option<Rate>
         if j == keys.len() {
             break None;
         }
-        let b = bids.bid((keys[j] % 1024) as usize);
+        let b = bid(bids, (keys[j] % 1024) as usize);
         sum += b.amount.0;
         if o.offered.0 <= sum {
             break Some(b.rate);

@@ -6,6 +6,7 @@ ghost use Rattle.offer.specs.Viewed.{viewed, TotalsAt, most_bids};
 
 use crate::{Offer, Totals, stands_better, stands_equal};
 use bids::BidColumns;
+use bids::internal::bid;
 use places::{Amount, Rate};
 
 // A number where a condition holds, else zero.
@@ -23,7 +24,7 @@ pub fn totals(o: Offer, bids: BidColumns, rate: Rate) -> Totals
     let mut better = 0;
     let mut equal = 0;
     for i in 0..bids.len() {
-        let b = bids.bid(i);
+        let b = bid(bids, i);
         better += where_holds(stands_better(o, b, rate), b.amount.0);
         equal += where_holds(stands_equal(o, b, rate), b.amount.0);
     }

@@ -12,6 +12,7 @@ use checks::internal::errors_of;
 use envelope::application::{Field, Fields};
 use envelope::internal::bytes_in;
 use errors::Errors;
+use errors::internal::with;
 use replies::internal::{put_confirmation, put_returned};
 use terms::Terms;
 
@@ -33,7 +34,7 @@ pub fn returned_errors(
 {
     let e = errors_of(m, t, f, found.is_some(), day, second);
     let late = e.is_empty() & !taken;
-    e.with(late, 302)
+    with(e, late, 302)
 }
 
 // Writes the reply to a readable message, and gives its length.

@@ -1,9 +1,9 @@
--- `bids::part_of` meets its contract. Assumes nothing.
+-- `bids::internal::part_of` meets its contract. Assumes nothing.
 use mathlib.Core.Path.{ap, ◌∙◌}
 use Prim.Native.Nat.{◌-◌}
 use lib.ListN.{take, drop}
 use Rattle.bids.proofs.SideBySide.{take_of, drop_of}
-use Rattle.bids.proofs.part_of.Goals as goal
+use Rattle.bids.proofs.internal.part_of.Goals as goal
 
 pub returns : goal.returns
 returns c =
