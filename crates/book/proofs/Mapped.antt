@@ -1,13 +1,10 @@
 -- An array that a loop fills with what becomes of another array's elements. Assumes nothing.
-use mathlib.Core.Path.{◌≡◌, refl, sym, ◌∙◌}
+use mathlib.Core.Path.{◌≡◌, refl, ◌∙◌}
 use mathlib.Core.List.{List, [], ◌∷◌, ◌++◌, map}
 use Prim.Native.Nat.{ℕ, zero, suc, ◌+◌, ◌≤◌, ◌<◌}
 use native.Mathlib.Omega.{arith}
-use denote.Param.Members.{Mut, Called}
 use lib.ListN.{length, take, drop, get_or, set, length-map}
-use Rattle.std.specs.Array.{IsMapOf}
-use Rattle.std.proofs.lemmas.List.{same_lists}
-use Rattle.laws.proofs.Arrays.{fill_more}
+use Rattle.laws.proofs.Arrays.{fill_more, fill_all}
 
 module _ {A B : Type 0} (f : A → B) where
   -- what becomes of the element at an index
@@ -27,9 +24,6 @@ module _ {A B : Type 0} (f : A → B) where
         let long = length-map l f in
         (omega arith, fill_more (map f l) old cur i (f (get_or l i d)) z (omega arith) (omega arith) (mapped_at l i d z h) m.1)
 
--- an array of what a closure gives of another array's elements
-pub map_is : {F A B : Type 0} (g : Mut F (A × Unit {0}) B) (f : F) (h : A → B) (xs : List A) (ys : List B) (n : ℕ) → A → length xs ≡ n → IsMapOf g f xs ys n
-    → ((p q : F) (x : A) (y : B) → Called g p (x, tt) y q → y ≡ h x) → ys ≡ map h xs
-map_is g f h xs ys n z e m calls =
-    same_lists ys (map h xs) (m.long ∙ sym (length-map xs h ∙ e))
-    (λ k d q. let (s, t, called) = m.at k z d (omega (arith, m.long, q)) in calls s t (get_or xs k z) (get_or ys k d) called ∙ mapped_at h xs k z d (omega (arith, m.long, e, q)))
+    -- all elements are written
+    pub mapped_all : length l ≤ i → MappedTo l old cur i → cur ≡ map f l
+    mapped_all h m = let long = length-map l f in m.1 ∙ fill_all (map f l) old i (omega arith) (omega arith)

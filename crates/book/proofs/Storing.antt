@@ -2,14 +2,15 @@
 use mathlib.Core.Path.{◌≡◌, refl, sym, ap, ap₂, ◌∙◌}
 use mathlib.Core.Logic.{◌≢◌}
 use mathlib.Core.Bool.{Bool, true, false}
-use mathlib.Core.List.{List, [], ◌∷◌, append_assoc}
+use mathlib.Core.List.{List, [], ◌∷◌, ◌++◌, append_assoc, map}
 use mathlib.Core.Option.{some}
 use Prim.Native.Nat.{ℕ, zero, suc, ◌+◌, ◌*◌, ◌-◌, ◌≤◌, ◌<◌}
 use native.Mathlib.Omega.{arith}
 use native.Mathlib.Nat.{add-zero}
+use native.Mathlib.Numerals.{add-one}
 use lib.Dec.{ltb}
-use lib.ListN.{length, get_or, set, take, drop, length-set}
-use lib.Seq.{sets, get_or-set_same, get_or-set_other, drop-drop, sets-eq}
+use lib.ListN.{length, get_or, set, take, drop, length-map, length-set}
+use lib.Seq.{sets, get_or-set_same, get_or-set_other, take-suc, length-take-le, take_all, drop-drop, sets-eq}
 use borrow.Author.Tests.{ltb-true, ltb-false}
 use borrow.Rule.Slice.PartMut.{put_mid}
 use Rattle.places.specs.declared.Rate.{Rate}
@@ -17,6 +18,7 @@ use Rattle.places.specs.declared.Amount.{Amount}
 use Rattle.book.specs.declared.Book.{Book}
 use Rattle.bids.specs.Columns.{no_rate, no_amount, bids_from}
 use Rattle.book.specs.Viewed.{held_at, entry_at, entries_from, up_to64, viewed, replaced}
+use Rattle.book.proofs.Mapped.{mapped_at}
 
 module _ {A : Type 0} where
   pub get_or_sets_low : (l : List A) (i : ℕ) (vs : List A) (p : ℕ) (d : A) → p < i → get_or (sets l i vs) p d ≡ get_or l p d
@@ -35,6 +37,22 @@ module _ {A : Type 0} where
     where
       next : i + suc j ≡ suc i + j
       next = omega arith
+
+  sets_snoc : (l : List A) (i : ℕ) (vs : List A) (v : A) → sets l i (vs ++ (v ∷ [])) ≡ set (sets l i vs) (i + length vs) v
+  sets_snoc l i [] v = rw add-zero
+  sets_snoc l i (x ∷ vs) v = sets_snoc (set l i x) (suc i) vs v ∙ ap (λ (n : ℕ). set (sets (set l i x) (suc i) vs) n v) next
+    where
+      next : suc i + length vs ≡ i + suc (length vs)
+      next = omega arith
+
+  -- one turn: the value at j is stored
+  pub sets_more : (l : List A) (i : ℕ) (vs cur : List A) (j : ℕ) (d : A) → j < length vs → cur ≡ sets l i (take j vs) → set cur (i + j) (get_or vs j d) ≡ sets l i (take (j + 1) vs)
+  sets_more l i vs cur j d h e =
+      ap (λ (c : List A). set c (i + j) (get_or vs j d)) e
+      ∙ ap (λ (n : ℕ). set (sets l i (take j vs)) (i + n) (get_or vs j d)) (sym (length-take-le j vs (omega arith)))
+      ∙ sym (sets_snoc l i (take j vs) (get_or vs j d))
+      ∙ ap (sets l i) (sym (take-suc vs j d h))
+      ∙ ap (λ (n : ℕ). sets l i (take n vs)) (sym (add-one j))
 
 -- the bids that were stored, and those at other indices
 bids_in_lem : (rs vs : List Rate) (xs ws : List Amount) (i j d : ℕ) → j + d ≤ length vs → j + d ≤ length ws → i + length vs ≤ length rs → i + length ws ≤ length xs
@@ -73,6 +91,15 @@ timed b k t rs xs = record { codes = b.codes; n = b.n; limits = b.limits; held =
 -- the arrays with a time and ten places stored at index k
 abbrev pub stored : Book → ℕ → ℕ → List Rate → List Amount → Book
 stored b k t vs ws = timed b k t (sets b.rates (10 * k) vs) (sets b.amounts (10 * k) ws)
+
+-- values stored as numbers, one more and all of them
+module _ {A : Type 0} (number : A → ℕ) where
+  pub number_stored : (l : List ℕ) (k : ℕ) (vs : List A) (cur : List ℕ) (i : ℕ) (d : A) → i < length vs → cur ≡ sets l k (take i (map number vs))
+      → set cur (k + i) (number (get_or vs i d)) ≡ sets l k (take (i + 1) (map number vs))
+  number_stored l k vs cur i d h e = ap (set cur (k + i)) (mapped_at number vs i d 0 h) ∙ sets_more l k (map number vs) cur i 0 (omega (arith, h, length-map vs number)) e
+
+  pub numbers_stored : (l : List ℕ) (k : ℕ) (vs : List A) (cur : List ℕ) (i : ℕ) → length vs ≤ i → cur ≡ sets l k (take i (map number vs)) → cur ≡ sets l k (map number vs)
+  numbers_stored l k vs cur i h e = e ∙ ap (sets l k) (take_all i (map number vs) (omega (arith, h, length-map vs number)))
 
 -- the lengths that the arrays have by their types
 pub record Sized (b : Book) : Type 0 where

@@ -69,19 +69,31 @@ pub fn find(b: Book, code: u64) -> Option<usize>
 pub fn numbers_of(from: [Rate; 640]) -> [u32; 640]
     ensures { result ≡ map hundred_thousandths from }
 {
-    from.map(|rate| rate.0)
+    let mut numbers = [0; 640];
+    for i in 0..640 {
+        numbers[i] = from[i].0;
+    }
+    numbers
 }
 
 // The eurocents of 640 amounts.
 pub fn cents_of(from: [Amount; 640]) -> [u64; 640]
     ensures { result ≡ map cents from }
 {
-    from.map(|amount| amount.0)
+    let mut cents = [0; 640];
+    for i in 0..640 {
+        cents[i] = from[i].0;
+    }
+    cents
 }
 
 // The amounts of 640 numbers of eurocents, from 640 zeros on: an award for each place.
 pub fn amounts_of(cents: [u64; 640]) -> [Amount; 640]
     ensures { result ≡ map amount_of cents }
 {
-    cents.map(Amount)
+    let mut amounts = [Amount(0); 640];
+    for i in 0..640 {
+        amounts[i] = Amount(cents[i]);
+    }
+    amounts
 }
