@@ -1,13 +1,17 @@
--- The line of a reception that is not refused, in the cases of the code: confirmed or returned. Assumes nothing.
+-- The line of a reception, in the cases of the code: refused, confirmed or returned. Assumes nothing.
 use mathlib.Core.Path.{◌≡◌, refl, sym, ap, ◌∙◌}
 use mathlib.Core.Bool.{false, false≢true}
 use mathlib.Core.List.{List, [], ◌∷◌}
 use Prim.Native.Nat.{ℕ}
 use lib.ListN.{drop}
 use Rattle.rules.specs.Receiving.{Error, is_empty}
-use Rattle.rules.specs.Calls.{answer_to}
-use Rattle.log_rules.specs.Lines.{confirmed_line, returned_line}
+use Rattle.rules.specs.Calls.{answer_to, refused}
+use Rattle.log_rules.specs.Lines.{refused_line, confirmed_line, returned_line}
 use Rattle.log_rules.specs.Steps.{date_in, time_in, answer_line}
+
+pub line_refused : (n : ℕ) (s : List ℕ) → refused_line n ≡ answer_line (refused n) s
+unfolding answer_line
+line_refused n s = refl
 
 pub line_confirmed : (es : List Error) (k : ℕ) (s m : List ℕ) → es ≡ [] → m ≡ drop 14 s → confirmed_line (date_in s) (time_in s) m ≡ answer_line (answer_to es k) s
 unfolding answer_line answer_to

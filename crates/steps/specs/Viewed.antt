@@ -1,8 +1,12 @@
 -- A standing with the codes and the words of a journal as the log of document 01, and what taking a field promises. Assumes nothing.
-use Rattle.std.specs.Prelude.{◌≡◌, true, false, cond, List, ℕ, ◌≤◌, take}
+use Rattle.std.specs.Prelude.{◌≡◌, true, false, cond, List, ℕ, ◌≤◌, take, Result, Ok, Err}
 use Rattle.std.proofs.Math.Option.{none, some}
 use Rattle.output.specs.Output.{Wrote}
-use Rattle.rules.specs.Calls.{Tender}
+use Rattle.rules.specs.Calls.{Answer, Tender, answer_to, refused}
+use Rattle.errors.specs.declared.Errors.{Errors}
+use Rattle.errors.specs.Listed.{listed}
+use Rattle.refusals.specs.declared.Refusal.{Refusal}
+use Rattle.refusals.specs.Conditions.{number_of}
 use Rattle.buffer.specs.Words.{tender_in, is_tender}
 use Rattle.log_rules.specs.Steps.{Log, Step}
 use Rattle.steps.specs.declared.Standing.{Standing}
@@ -11,6 +15,11 @@ use Rattle.steps.specs.declared.Taken.{Taken}
 -- the first n of the codes are those of the last A0, and the words are the tender, if there is one
 abbrev pub viewed : Standing → List ℕ → List ℕ → Log
 viewed st codes words = record { ended = st.ended; codes = (take st.n codes); tender = cond st.opened (some (tender_in words)) none }
+
+-- a reception answered with errors and a reply of k bytes, whose length no line tells, or refused
+abbrev pub answer_told : Result Errors Refusal → ℕ → Answer
+answer_told (Ok e) k = answer_to (listed e) k
+answer_told (Err r) k = refused (number_of r)
 
 -- what holds of every standing with its words
 pub record Given (st : Standing) (words : List ℕ) : Type 0 where

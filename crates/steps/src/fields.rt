@@ -99,13 +99,12 @@ pub fn reception(standing: Standing, words: &mut [u64], s: &[u8], space: &mut [u
     let m = &s[14..s.len()];
     match outcome_in(words, m, date_of(s), time_of(s), 436) {
         Ok(outcome) => {
-            let errors = outcome.errors;
-            let length = put_answer(space, s, m, errors);
+            let length = put_answer(space, s, m, Ok(outcome.errors));
             leave_in(words, outcome);
             Taken { standing, length }
         }
         Err(refusal) => {
-            let length = put_refused(space, refusals::number_of(refusal));
+            let length = put_answer(space, s, m, Err(refusal));
             Taken { standing, length }
         }
     }

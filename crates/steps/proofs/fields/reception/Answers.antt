@@ -10,6 +10,7 @@ use Rattle.log_rules.specs.Lines.{refused_line}
 use Rattle.log_rules.specs.Steps.{Log, ending, on_tender, received, reception_step}
 use Rattle.steps.specs.Viewed.{viewed}
 use Rattle.steps.proofs.Taking.{takes_as, takes-ended, takes_skipped, takes_called}
+use Rattle.steps.proofs.Answered.{line_refused}
 use Rattle.steps.proofs.Receiving.{message_is, line_told, left-told, line-refused, left-refused}
 use Rattle.steps.proofs.fields.reception.Goals as goal
 
@@ -41,7 +42,7 @@ outcome_in-requires c = c.requires.ready.given.tender (not-false _ c.if-not-open
 pub put_answer-length-requires : goal.put_answer-length-requires
 put_answer-length-requires c =
     let e = c.in-Ok.ensures.comes in
-    record { m_value = e.readable-told refl; n_bound = (e.few, c.if-s-lt14.false, c.requires.in_bounds); m_value_2 = message_is c.args.s.now }
+    record { m_value = λ none. e.readable-told refl; n_bound = (e.few, c.if-s-lt14.false, c.requires.in_bounds); m_value_2 = message_is c.args.s.now }
 
 pub leave_in-requires : goal.leave_in-requires
 leave_in-requires c = (c.requires.ready.given.tender (not-false _ c.if-not-opened.false-raw), c.in-Ok.ensures.comes.within)
@@ -65,9 +66,9 @@ returns-in-Err c =
     let s = a.s.now in
     let ws = a.words.now in
     let f = c.in-Err in
-    let line = line-refused (tender_in ws) s _ c.date_of.result c.time_of.result (message_is s) c.date_of.ensures c.time_of.ensures f.refusal f.ensures.comes in
+    let line = sym (line_refused _ s) ∙ line-refused (tender_in ws) s _ c.date_of.result c.time_of.result (message_is s) c.date_of.ensures c.time_of.ensures f.refusal f.ensures.comes in
     let kept = left-refused (tender_in ws) s _ c.date_of.result c.time_of.result (message_is s) c.date_of.ensures c.time_of.ensures f.refusal f.ensures.comes in
     let opened = not-false _ c.if-not-opened.false-raw in
     takes_as (calls s (viewed a.standing codes ws) c.if-s-lt14.false)
     (takes_called a.standing codes ws a.space.now (received s) _ _ _ c.requires.ready opened
-    (record { tender_is = kept; lines = said (ap refused_line c.number_of.ensures ∙ line) c.put_refused-length.ensures; given = c.requires.ready.given.tender opened }))
+    (record { tender_is = kept; lines = said line (c.put_answer-length-in-Err.ensures 0); given = c.requires.ready.given.tender opened }))
