@@ -85,7 +85,11 @@ pub fn open_in(
     requires { tender_words ≤ length words.old }
     ensures { OpensIn words.old m.now (admitting codes.now limits.now) result words.new }
 {
-    let terms = open(m, codes, limits)?;
-    put_tender(words, terms, codes, limits);
-    Ok(())
+    match open(m, codes, limits) {
+        Ok(terms) => {
+            put_tender(words, terms, codes, limits);
+            Ok(())
+        }
+        Err(refusal) => Err(refusal),
+    }
 }

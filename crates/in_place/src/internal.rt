@@ -70,12 +70,16 @@ pub fn receive_in(
     requires { is_tender words.old ≡ true }
     ensures { ReceivesIn words.old m.now date time space.old result words.new space.new }
 {
-    let o = outcome_in(words, m, date, time, space.len())?;
-    let errors = o.errors;
-    let terms = terms_in(words);
-    let length = put_reply(space, m, terms, time, errors);
-    leave_in(words, o);
-    Ok(Reply { errors, length })
+    match outcome_in(words, m, date, time, space.len()) {
+        Ok(o) => {
+            let errors = o.errors;
+            let terms = terms_in(words);
+            let length = put_reply(space, m, terms, time, errors);
+            leave_in(words, o);
+            Ok(Reply { errors, length })
+        }
+        Err(refusal) => Err(refusal),
+    }
 }
 
 // Closes the tender at a clock reading past its cut-off.

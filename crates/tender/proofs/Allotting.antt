@@ -1,4 +1,4 @@
--- What allotting and a preview give: refused, zeros and the tender that came in; else the awards, and the tender announced or as it was. Assumes nothing.
+-- What allotting and a preview give: refused, no awards and the tender that came in; else the awards, and the tender announced or as it was. Assumes nothing.
 use Rattle.std.specs.Prelude.{Result}
 use mathlib.Core.Path.{◌≡◌, refl, sym, ap, subst, ◌∙◌}
 use mathlib.Core.Option.{Option, none, some}

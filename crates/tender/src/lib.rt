@@ -1,7 +1,7 @@
 // The calls on a tender: each takes it by value and gives back the next one with the answer.
 #![tactic(auto)]
 
-ghost use Rattle.std.specs.Prelude.{◌≡◌};
+ghost use Rattle.std.specs.Prelude.{◌≡◌, Err};
 ghost use Rattle.rules.specs.Opening.{admitting};
 ghost use Rattle.rules.specs.Calls.{receive, close, revoke};
 ghost use Rattle.checks.specs.Columns.{reception_of};
@@ -121,6 +121,17 @@ fn outcome_of(t: Tender, m: &[u8], date: u64, time: u64, room: usize) -> Result<
     Ok(judged(terms, found, taken, m, fields, date, time))
 }
 
+// A refused reception: the tender as it was. It stands apart, since with two answers in one function both are cleared for each
+// reception, accepted or not.
+fn unreceived(t: Tender, refusal: Refusal) -> Received
+    ensures { (result.answer ≡ Err refusal) × (result.tender ≡ t) }
+{
+    Received {
+        answer: Err(refusal),
+        tender: t,
+    }
+}
+
 // The tender in another state, unless the call is refused.
 fn in_state_unless(t: Tender, answer: Result<(), Refusal>, state: State) -> Changed
     requires { Given t }
@@ -165,26 +176,22 @@ impl Tender {
         requires { Given self }
         ensures { Receives self (receive (viewed self) (reception_of m.now date time space.old)) result space.new }
     {
-        match outcome_of(self, m, date, time, space.len()) {
-            Ok(o) => {
-                let errors = o.errors;
-                let state = self.state;
-                let terms = self.terms;
-                let book = self.book;
-                let length = put_reply(space, m, terms, time, errors);
-                let next = held_in(book, o);
-                Received {
-                    answer: Ok(Reply { errors, length }),
-                    tender: Tender {
-                        state,
-                        terms,
-                        book: next,
-                    },
-                }
-            }
-            Err(refusal) => Received {
-                answer: Err(refusal),
-                tender: self,
+        let o = match outcome_of(self, m, date, time, space.len()) {
+            Ok(o) => o,
+            Err(refusal) => return unreceived(self, refusal),
+        };
+        let errors = o.errors;
+        let state = self.state;
+        let terms = self.terms;
+        let book = self.book;
+        let length = put_reply(space, m, terms, time, errors);
+        let next = held_in(book, o);
+        Received {
+            answer: Ok(Reply { errors, length }),
+            tender: Tender {
+                state,
+                terms,
+                book: next,
             },
         }
     }
@@ -228,10 +235,15 @@ impl Tender {
         let state = self.state;
         let terms = self.terms;
         let book = self.book;
-        let answer = allot_book(ended_refusal(state), terms, book);
-        Allotted {
-            answer,
-            tender: self,
+        match allot_book(ended_refusal(state), terms, book) {
+            Ok(previewed) => Allotted {
+                answer: Ok(previewed),
+                tender: self,
+            },
+            Err(refusal) => Allotted {
+                answer: Err(refusal),
+                tender: self,
+            },
         }
     }
 

@@ -1,5 +1,5 @@
 -- `in_place::internal::receive_in` meets its contract: refused, or answered and left. Assumes nothing.
-use Rattle.std.specs.Prelude.{Ok, Err}
+use Rattle.std.specs.Prelude.{Ok}
 use mathlib.Core.Path.{◌≡◌, refl, sym, subst}
 use native.Mathlib.Omega.{arith}
 use lib.ListN.{length}
@@ -19,34 +19,21 @@ use Rattle.in_place.proofs.Leaving.{numbers-left}
 use borrow.Author.Rules.{rules}
 use Rattle.in_place.proofs.internal.receive_in.Goals as goal
 
-pub returns-in_err-o : goal.returns-in_err-o
-returns-in_err-o c =
-    let a = c.args in
-    let ws = a.words.now in
-    let f = c.in_err-o.field-0.0 in
-    let told : c.from_residual.result ≡ Err f = search rules in
-    rw told
-    (record {
-      answers = answers-refused (tender_in ws) (reception_of a.m.now a.date a.time a.space.now) f (c.in_err-o.ensures.comes.number a.space.now refl);
-      numbers = refl;
-      given = c.requires;
-    })
-
 pub terms_in-terms-requires : goal.terms_in-terms-requires
 terms_in-terms-requires c = (known c.args.words.now c.requires).long
 
 pub put_reply-length-requires : goal.put_reply-length-requires
 put_reply-length-requires c =
-    let e = c.in_ok-o.ensures.comes in
+    let e = c.in-Ok.ensures.comes in
     record { m_value = e.readable-told refl; n_bound = (e.few, e.roomy refl) }
 
 pub leave_in-requires : goal.leave_in-requires
-leave_in-requires c = (c.requires, c.in_ok-o.ensures.comes.within)
+leave_in-requires c = (c.requires, c.in-Ok.ensures.comes.within)
 
-pub returns : goal.returns
-returns c =
-    let o = c.in_ok-o.o in
-    let e = c.in_ok-o.ensures in
+pub returns-in-Ok : goal.returns-in-Ok
+returns-in-Ok c =
+    let o = c.in-Ok.o in
+    let e = c.in-Ok.ensures in
     let sixteen : length o.errors.codes ≡ 16 = search rules in
     let a = c.args in
     let ws = a.words.now in
@@ -60,4 +47,14 @@ returns c =
           (answers-left (tender_in ws) x o.errors n (entries_after (viewed (book_in ws)) o) after (e.comes.left a.space.now) (sym (e.comes.number a.space.now refl)) e.comes.few wrote);
       numbers = numbers-left ws a.m.now _ o n (omega (arith, sixteen)) e.accepts c.leave_in.ensures.numbers;
       given = c.leave_in.ensures.given;
+    }
+
+pub returns-in-Err : goal.returns-in-Err
+returns-in-Err c =
+    let a = c.args in
+    let ws = a.words.now in
+    record {
+      answers = answers-refused (tender_in ws) (reception_of a.m.now a.date a.time a.space.now) c.in-Err.refusal (c.in-Err.ensures.comes.number a.space.now refl);
+      numbers = refl;
+      given = c.requires;
     }
