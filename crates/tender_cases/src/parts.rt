@@ -1,4 +1,6 @@
 // Parts of a text, and the numbers that they are.
+ghost use Rattle.std.specs.Prelude.{◌<◌, ◌≤◌, length};
+
 // The bytes of a text from one index to another, or none where there are no such.
 pub fn part(text: &[u8], from: usize, to: usize) -> &[u8] {
     if from <= to {
@@ -25,4 +27,15 @@ pub fn number(text: &[u8]) -> u64 {
 // The first byte of a text, 0 where there is none.
 pub fn initial(text: &[u8]) -> u8 {
     if 0 < text.len() { text[0] } else { 0 }
+}
+
+// Where the line that begins at an index ends.
+pub fn line_end(text: &[u8], from: usize) -> usize
+    requires { from < length text.now }
+    ensures { (from ≤ result) × (result < length text.now) }
+{
+    match text[from..].iter().position(|&b| b == b'\n') {
+        Some(at) => from + at,
+        None => text.len() - 1,
+    }
 }

@@ -3,7 +3,7 @@ ghost use Rattle.std.specs.Prelude.{IfOk};
 ghost use Rattle.tender.specs.Viewed.{Given};
 
 use crate::messages::{announcement, announcing, first, with};
-use crate::parts::{initial, number, part, rest};
+use crate::parts::{initial, line_end, number, part, rest};
 use crate::steps;
 use std::io;
 use tender::Tender;
@@ -145,14 +145,13 @@ fn start() -> Session
 // Every line of a script. The last byte ends the last line, a newline or not.
 pub fn run(rt: &impl Print, script: &[u8]) -> io::Result<()> {
     let mut s = start();
-    let mut left = script;
-    // A while, since the check refuses a for over split in a function with a type parameter.
-    while let Some(end) = left.iter().position(|&b| b == b'\n') {
-        s = step(rt, s, &left[..end])?;
-        left = &left[end + 1..];
-    }
-    if let Some((_, line)) = left.split_last() {
-        step(rt, s, line)?;
+    let mut at = 0;
+    // A while, since the check refuses a for over split in a function with a type parameter. A second call of step would
+    // keep both out of this function, and clear what a step needs for each line.
+    while at < script.len() {
+        let end = line_end(script, at);
+        s = step(rt, s, &script[at..end])?;
+        at = end + 1;
     }
     Ok(())
 }
