@@ -87,7 +87,7 @@ fields_of m =
       places = places_of (bytes_of Bids m);
     }
 
--- what a refused reading gives: no number at all
+-- what a refused reading counts as: no number at all
 abbrev pub no_fields : Fields
 no_fields =
     record { sender = Malformed; recipient = Malformed; cro = None; date = None; time = None; check = None; places = columns (replicate 10 malformed) }

@@ -123,7 +123,7 @@ fn fields_of(m: &[u8]) -> Fields
     }
 }
 
-// What a refused reading gives.
+// What the definition counts a refused reading as: fields without any number.
 pub fn no_fields() -> Fields
     ensures { result ≡ no_fields }
 {
